@@ -1,0 +1,99 @@
+-- Laws of `first`, `someBelow` and `countBelow`.
+-- Assumes nothing.
+use Prim.Native.Nat.{ℕ, zero, suc, _+_, _-_, _≤_, _<_}
+use mathlib.Core.Path.{_≡_, refl, sym, ap, _∙_}
+use mathlib.Core.Bool.{Bool, true, false, cond}
+use mathlib.Core.Logic.{⊎-elim}
+use native.Mathlib.Nat.{eq-or-lt-of-le}
+use native.Mathlib.Numerals.{add-one}
+use native.Mathlib.Omega.{arith}
+use lib.Dec.{ltb}
+use borrow.Author.Tests.{lt-ltb, le-ltb}
+use Rattle.rules.specs.First.{first, someBelow, countBelow}
+
+module _ (f : ℕ → Bool) where
+  -- for a loop whose invariant is first f 0 n ≡ first f i (n - i)
+  pub first-step : (i n : ℕ) → i < n → f i ≡ false → first f i (n - i) ≡ first f (i + 1) (n - (i + 1))
+  unfolding first
+  first-step i n l e = let m : n - i ≡ suc (n - (i + 1)) = omega arith in rw (m, e)
+
+  pub first-hit : (i n : ℕ) → i < n → f i ≡ true → first f i (n - i) ≡ i
+  unfolding first
+  first-hit i n l e = let m : n - i ≡ suc (n - (i + 1)) = omega arith in rw (m, e)
+
+  pub first-none : (i n : ℕ) → i ≤ n → n ≤ i → first f i (n - i) ≡ n
+  unfolding first
+  first-none i n h l = let m : n - i ≡ 0 = omega arith in let e : i ≡ n = omega arith in rw m e
+
+  -- for a caller: bounds, and what holds at and below the answer
+  pub first-ge : (k i : ℕ) → i ≤ first f i k
+  unfolding first
+  first-ge zero i = omega arith
+  first-ge (suc k) i = go (f i) (first-ge k (i + 1))
+    where
+      go : (b : Bool) → i + 1 ≤ first f (i + 1) k → i ≤ cond b i (first f (i + 1) k)
+      go true h = omega arith
+      go false h = omega arith
+
+  pub first-le : (k i : ℕ) → first f i k ≤ i + k
+  unfolding first
+  first-le zero i = omega arith
+  first-le (suc k) i = go (f i) (first-le k (i + 1))
+    where
+      go : (b : Bool) → first f (i + 1) k ≤ i + 1 + k → cond b i (first f (i + 1) k) ≤ i + suc k
+      go true h = omega arith
+      go false h = omega arith
+
+  pub first-true : (k i : ℕ) → first f i k < i + k → f (first f i k) ≡ true
+  unfolding first
+  first-true zero i h = absurd (omega arith)
+  first-true (suc k) i h = go (f i) refl h (first-true k (i + 1))
+    where
+      go : (b : Bool) → f i ≡ b → cond b i (first f (i + 1) k) < i + suc k
+          → (first f (i + 1) k < i + 1 + k → f (first f (i + 1) k) ≡ true) → f (cond b i (first f (i + 1) k)) ≡ true
+      go true p q r = p
+      go false p q r = r (omega arith)
+
+  pub first-below : (k i j : ℕ) → i ≤ j → j < first f i k → f j ≡ false
+  unfolding first
+  first-below zero i j l h = absurd (omega arith)
+  first-below (suc k) i j l h = go (f i) refl h (first-below k (i + 1) j)
+    where
+      go : (b : Bool) → f i ≡ b → j < cond b i (first f (i + 1) k) → (i + 1 ≤ j → j < first f (i + 1) k → f j ≡ false) → f j ≡ false
+      go true p q r = absurd (omega arith)
+      go false p q r = ⊎-elim (λ (s : i ≡ j). rw (← s) p) (λ (s : i < j). r (omega arith) q) (eq-or-lt-of-le l)
+
+  -- no fault anywhere where the answer is the end
+  pub first-all : (k i : ℕ) → first f i k ≡ i + k → (j : ℕ) → i ≤ j → j < i + k → f j ≡ false
+  first-all k i e j l h = first-below k i j l (omega arith)
+
+  -- and the end where there is no fault
+  pub first-end : (k i : ℕ) → ((j : ℕ) → i ≤ j → j < i + k → f j ≡ false) → first f i k ≡ i + k
+  unfolding first
+  first-end zero i h = omega arith
+  first-end (suc k) i h = let e : f i ≡ false = h i (omega arith) (omega arith) in rw e (first-end k (i + 1) (λ j a b. h j (omega arith) (omega arith)) ∙ omega arith)
+
+  -- a hit makes some
+  pub some-hit : (n i : ℕ) → i < n → first f 0 n ≡ i → someBelow f n ≡ true
+  some-hit n i l e = lt-ltb (first f 0 n) n (omega arith)
+
+  pub some-none : (n : ℕ) → first f 0 n ≡ n → someBelow f n ≡ false
+  some-none n e = le-ltb (first f 0 n) n (omega arith)
+
+  pub count-le : (n : ℕ) → countBelow f n ≤ n
+  unfolding countBelow
+  count-le zero = omega arith
+  count-le (suc n) = go (f n) (count-le n)
+    where
+      go : (b : Bool) → countBelow f n ≤ n → countBelow f n + cond b 1 0 ≤ suc n
+      go true h = omega arith
+      go false h = omega arith
+
+-- two tests that agree below the end have the same answer
+pub first-same : (f g : ℕ → Bool) (k i : ℕ) → ((j : ℕ) → i ≤ j → j < i + k → f j ≡ g j) → first f i k ≡ first g i k
+unfolding first
+first-same f g zero i h = refl
+first-same f g (suc k) i h =
+    let e : f i ≡ g i = h i (omega arith) (omega arith) in
+    let r : first f (i + 1) k ≡ first g (i + 1) k = first-same f g k (i + 1) (λ j a b. h j (omega arith) (omega arith)) in
+    rw (e, r)

@@ -1,0 +1,5 @@
+pub mod FirstLaws
+pub mod BytesLaws
+pub mod OutcomeLaws
+pub mod MemoryLaws
+pub mod Tests

@@ -1,0 +1,24 @@
+-- The lowest index at which a test holds.
+-- Assumes nothing.
+use Prim.Native.Nat.{ℕ, zero, suc, _+_}
+use mathlib.Core.Bool.{Bool, cond}
+use lib.Dec.{ltb, eqb}
+use Rattle.rules.specs.Outcome.{Outcome, good, refuse}
+
+-- the first of the k indices from i on at which f holds, or i + k
+unfoldable pub first : (ℕ → Bool) → ℕ → ℕ → ℕ
+first f i zero = i
+first f i (suc k) = cond (f i) i (first f (i + 1) k)
+
+-- f holds at one of the indices below n
+abbrev pub someBelow : (ℕ → Bool) → ℕ → Bool
+someBelow f n = ltb (first f 0 n) n
+
+-- at how many of the indices below n does f hold
+unfoldable pub countBelow : (ℕ → Bool) → ℕ → ℕ
+countBelow f zero = 0
+countBelow f (suc n) = countBelow f n + cond (f n) 1 0
+
+-- no fault at the indices below n; else the number with the lowest faulty index
+abbrev pub faultless : ℕ → (ℕ → Bool) → ℕ → Outcome (Unit {0})
+faultless number fault n = cond (eqb (first fault 0 n) n) (good tt) (refuse number (first fault 0 n))

@@ -1,0 +1,14 @@
+pub mod Outcome
+pub mod Limits
+pub mod Bytes
+pub mod First
+pub mod Headers
+pub mod Segments
+pub mod Dynamic
+pub mod Tables
+pub mod Descriptors
+pub mod Relocations
+pub mod Examine
+pub mod Memory
+pub mod Load
+pub mod Plain

@@ -1,0 +1,38 @@
+-- The limits of document 01, each by name.
+-- Assumes nothing.
+use Prim.Native.Nat.{ℕ, _^_}
+
+-- the shortest and the longest file (check 1)
+abbrev pub fileLeast : ℕ
+fileLeast = 64
+
+abbrev pub fileLimit : ℕ
+fileLimit = 1048576
+
+-- the end of memory (checks 4 and 12)
+abbrev pub memoryLimit : ℕ
+memoryLimit = 1048576
+
+-- program headers (check 3)
+abbrev pub headerLimit : ℕ
+headerLimit = 16
+
+-- bytes of PT_DYNAMIC (check 5)
+abbrev pub dynamicLimit : ℕ
+dynamicLimit = 4096
+
+-- relocation entries (check 7)
+abbrev pub entryLimit : ℕ
+entryLimit = 1024
+
+-- descriptors (check 9)
+abbrev pub globalLimit : ℕ
+globalLimit = 1024
+
+-- addresses (checks 9, 12 and 13)
+abbrev pub addressLimit : ℕ
+addressLimit = 2 ^ 48
+
+-- bytes of a granule
+abbrev pub granule : ℕ
+granule = 16

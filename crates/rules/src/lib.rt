@@ -1,0 +1,133 @@
+// The types that the layers share. The rules themselves are the definitions in specs/, a file a section of document 01.
+
+// Why a call was refused: document 01's number and position.
+pub struct Refusal {
+    pub number: u8,
+    pub position: u64,
+}
+
+// Where the program header table stands in the file, and how many headers it has.
+pub struct Headers {
+    pub table: u32,
+    pub count: u16,
+}
+
+// One program header.
+pub struct Segment {
+    pub kind: u32,
+    pub flags: u32,
+    pub offset: u64,
+    pub vaddr: u64,
+    pub filesz: u64,
+    pub memsz: u64,
+    pub align: u64,
+}
+
+// Where bytes at an address stand in the file.
+pub enum Place {
+    At(u32),
+    Nowhere,
+}
+
+// Where the dynamic table stands in the file, and how many entries come before the first DT_NULL.
+pub struct Dynamic {
+    pub at: u32,
+    pub entries: u16,
+}
+
+// The value of a dynamic entry.
+pub enum Entry {
+    Absent,
+    Value(u64),
+}
+
+// Which values of a dynamic entry are allowed.
+pub enum Allowed {
+    Any,
+    Exactly24,
+    Multiple24,
+    Flag,
+    Never,
+}
+
+// A row of the table of known dynamic tags. Rows of one group are partners; a group goes by its first tag.
+pub struct Known {
+    pub tag: u64,
+    pub group: u64,
+    pub allowed: Allowed,
+}
+
+// Where the relocation table stands in the file, and how many entries it has.
+pub struct Relocations {
+    pub at: u32,
+    pub entries: u16,
+}
+
+// Where the descriptor table stands in the file, and how many bytes it has.
+pub struct Descriptors {
+    pub at: u32,
+    pub bytes: u32,
+}
+
+// A described global: its first address and its granules of 16 bytes.
+pub struct Global {
+    pub start: u64,
+    pub granules: u64,
+}
+
+// Where reading descriptors stands: a position in the table, and the last global's end.
+pub struct Cursor {
+    pub position: u64,
+    pub end: u64,
+}
+
+// What the ELF reader finds in a file that passes checks 1 to 9.
+pub struct Module {
+    pub headers: Headers,
+    pub dynamic: Dynamic,
+    pub relocations: Relocations,
+    pub descriptors: Descriptors,
+    pub globals: u16,
+}
+
+// A symbol's fields that a relocation uses.
+pub struct Symbol {
+    pub info: u8,
+    pub section: u16,
+    pub value: u64,
+}
+
+// What a relocation refers to.
+pub enum Target {
+    // RELATIVE: the bias.
+    Base,
+    // ABS64 and GLOB_DAT: the bias and the symbol's value.
+    Defined(u64),
+    // A weak undefined symbol.
+    Undefined,
+    // A kind or symbol that is not allowed.
+    Barred,
+}
+
+// MEMTAG_MODE.
+pub enum Mode {
+    Absent,
+    Synchronous,
+    Asynchronous,
+}
+
+// MEMTAG_HEAP and MEMTAG_STACK.
+pub enum Switch {
+    Absent,
+    Off,
+    On,
+}
+
+// The facts of a module.
+pub struct Facts {
+    pub mode: Mode,
+    pub heap: Switch,
+    pub stack: Switch,
+    pub globals: u16,
+    pub words: u16,
+}
