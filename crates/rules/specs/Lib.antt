@@ -9,6 +9,7 @@ pub mod Tables
 pub mod Descriptors
 pub mod Relocations
 pub mod Examine
+pub mod Answers
 pub mod Memory
 pub mod Load
 pub mod Plain

@@ -131,3 +131,63 @@ pub struct Facts {
     pub globals: u16,
     pub words: u16,
 }
+
+// The answer of a check that finds nothing out.
+pub enum Checked {
+    Passed,
+    Refused(Refusal),
+}
+
+// The answer of checks 1 to 3.
+pub enum HeadersAnswer {
+    Found(Headers),
+    Refused(Refusal),
+}
+
+// The answer of check 5.
+pub enum DynamicAnswer {
+    Found(Dynamic),
+    Refused(Refusal),
+}
+
+// The answers of check 7.
+pub enum RelocationsAnswer {
+    Found(Relocations),
+    Refused(Refusal),
+}
+
+pub enum DescriptorsAnswer {
+    Found(Descriptors),
+    Refused(Refusal),
+}
+
+// What reading one descriptor finds: the table's end, or a global and the moved cursor.
+pub enum Step {
+    Finished,
+    Global(Global, Cursor),
+    Refused(Refusal),
+}
+
+// How many globals a table lists, in the walk of checks 8 and 9.
+pub enum GlobalsAnswer {
+    Found(u16),
+    Refused(Refusal),
+}
+
+// The answer of the ELF reader, checks 1 to 9.
+pub enum ModuleAnswer {
+    Found(Module),
+    Refused(Refusal),
+}
+
+// The answer of examine, checks 1 to 11, and of the load, checks 1 to 14.
+pub enum Answer {
+    Taken(Facts),
+    Refused(Refusal),
+}
+
+// A relocated address, where it is in range.
+pub enum Address {
+    At(u64),
+    Outside,
+}

@@ -1,0 +1,85 @@
+-- The cases of each enum that a call answers, as document 01's outcome.
+-- Assumes nothing.
+use Prim.Native.Nat.{ℕ}
+use mathlib.Core.Bool.{Bool, cond}
+use mathlib.Core.List.{List}
+use lib.ListN.{length}
+use lib.Dec.{ltb}
+use lib.IntN.{ℤ, pos, negsuc}
+use Rattle.rules.specs.Outcome.{Outcome, good, bad}
+use Rattle.rules.specs.Limits.{addressLimit}
+use Rattle.rules.specs.Descriptors.{Read, finished, global}
+use Rattle.rules.specs.declared.Headers.{Headers}
+use Rattle.rules.specs.declared.Dynamic.{Dynamic}
+use Rattle.rules.specs.declared.Relocations.{Relocations}
+use Rattle.rules.specs.declared.Descriptors.{Descriptors}
+use Rattle.rules.specs.declared.Global.{Global}
+use Rattle.rules.specs.declared.Module.{Module}
+use Rattle.rules.specs.declared.Facts.{Facts}
+use Rattle.rules.specs.declared.Checked.{Checked}
+use Rattle.rules.specs.declared.Checked.the-variants as checked
+use Rattle.rules.specs.declared.HeadersAnswer.{HeadersAnswer}
+use Rattle.rules.specs.declared.HeadersAnswer.the-variants as headers
+use Rattle.rules.specs.declared.DynamicAnswer.{DynamicAnswer}
+use Rattle.rules.specs.declared.DynamicAnswer.the-variants as dynamic
+use Rattle.rules.specs.declared.RelocationsAnswer.{RelocationsAnswer}
+use Rattle.rules.specs.declared.RelocationsAnswer.the-variants as relocations
+use Rattle.rules.specs.declared.DescriptorsAnswer.{DescriptorsAnswer}
+use Rattle.rules.specs.declared.DescriptorsAnswer.the-variants as descriptors
+use Rattle.rules.specs.declared.Step.{Step}
+use Rattle.rules.specs.declared.Step.the-variants as step
+use Rattle.rules.specs.declared.GlobalsAnswer.{GlobalsAnswer}
+use Rattle.rules.specs.declared.GlobalsAnswer.the-variants as globals
+use Rattle.rules.specs.declared.ModuleAnswer.{ModuleAnswer}
+use Rattle.rules.specs.declared.ModuleAnswer.the-variants as module-answer
+use Rattle.rules.specs.declared.Answer.{Answer}
+use Rattle.rules.specs.declared.Answer.the-variants as answer
+use Rattle.rules.specs.declared.Address.{Address}
+use Rattle.rules.specs.declared.Address.the-variants as address
+
+abbrev pub ofChecked : Checked → Outcome (Unit {0})
+ofChecked checked.Passed = good tt
+ofChecked (checked.Refused r) = bad r
+
+abbrev pub ofHeaders : HeadersAnswer → Outcome Headers
+ofHeaders (headers.Found h) = good h
+ofHeaders (headers.Refused r) = bad r
+
+abbrev pub ofDynamic : DynamicAnswer → Outcome Dynamic
+ofDynamic (dynamic.Found d) = good d
+ofDynamic (dynamic.Refused r) = bad r
+
+abbrev pub ofRelocations : RelocationsAnswer → Outcome Relocations
+ofRelocations (relocations.Found t) = good t
+ofRelocations (relocations.Refused r) = bad r
+
+abbrev pub ofDescriptors : DescriptorsAnswer → Outcome Descriptors
+ofDescriptors (descriptors.Found t) = good t
+ofDescriptors (descriptors.Refused r) = bad r
+
+abbrev pub ofStep : Step → Outcome Read
+ofStep step.Finished = good finished
+ofStep (step.Global g c) = good (global g c)
+ofStep (step.Refused r) = bad r
+
+abbrev pub ofGlobals : GlobalsAnswer → Outcome ℕ
+ofGlobals (globals.Found n) = good n
+ofGlobals (globals.Refused r) = bad r
+
+-- how many globals there are
+abbrev pub countOf : Outcome (List Global) → Outcome ℕ
+countOf (good gs) = good (length gs)
+countOf (bad r) = bad r
+
+abbrev pub ofModule : ModuleAnswer → Outcome Module
+ofModule (module-answer.Found m) = good m
+ofModule (module-answer.Refused r) = bad r
+
+abbrev pub ofAnswer : Answer → Outcome Facts
+ofAnswer (answer.Taken a) = good a
+ofAnswer (answer.Refused r) = bad r
+
+-- an address that is not below 0 and below 2^48
+abbrev pub inRange : ℤ → Address
+inRange (pos x) = cond (ltb x addressLimit) (address.At x) address.Outside
+inRange (negsuc x) = address.Outside
