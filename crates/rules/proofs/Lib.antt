@@ -3,3 +3,4 @@ pub mod BytesLaws
 pub mod OutcomeLaws
 pub mod MemoryLaws
 pub mod Tests
+pub mod BoolLaws
