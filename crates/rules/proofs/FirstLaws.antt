@@ -8,8 +8,9 @@ use native.Mathlib.Nat.{eq-or-lt-of-le}
 use native.Mathlib.Numerals.{add-one}
 use native.Mathlib.Omega.{arith}
 use lib.Dec.{ltb}
-use borrow.Author.Tests.{lt-ltb, le-ltb}
-use Rattle.rules.specs.First.{first, someBelow, countBelow}
+use borrow.Author.Tests.{lt-ltb, le-ltb, eq-eqb, ne-eqb}
+use Rattle.rules.specs.Outcome.{good, refuse}
+use Rattle.rules.specs.First.{first, someBelow, countBelow, faultless}
 
 module _ (f : ℕ → Bool) where
   -- for a loop whose invariant is first f 0 n ≡ first f i (n - i)
@@ -97,3 +98,10 @@ first-same f g (suc k) i h =
     let e : f i ≡ g i = h i (omega arith) (omega arith) in
     let r : first f (i + 1) k ≡ first g (i + 1) k = first-same f g k (i + 1) (λ j a b. h j (omega arith) (omega arith)) in
     rw (e, r)
+
+-- a check of faults, where a walk found the lowest and where it found none
+pub faultless-hit : (number : ℕ) (f : ℕ → Bool) (n i : ℕ) → first f 0 n ≡ i → i < n → faultless number f n ≡ refuse number i
+faultless-hit number f n i e l = rw (e, ne-eqb i n (λ q. omega arith))
+
+pub faultless-none : (number : ℕ) (f : ℕ → Bool) (n : ℕ) → first f 0 n ≡ n → faultless number f n ≡ good tt
+faultless-none number f n e = rw (e, eq-eqb n n refl)

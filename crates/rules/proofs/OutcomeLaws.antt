@@ -24,6 +24,12 @@ pub require-held : {u : Unit {0}} (b : Bool) (n p : ℕ) → require b n p ≡ g
 require-held true n p h = refl
 require-held false n p h = absurd (let z : _≡_ {A = ℕ} 0 1 = cc in omega arith)
 
+pub require-true : (b : Bool) (n p : ℕ) → b ≡ true → require b n p ≡ good tt
+require-true b n p h = rw h
+
+pub require-false : (b : Bool) (n p : ℕ) → b ≡ false → require b n p ≡ refuse n p
+require-false b n p h = rw h
+
 -- both of two checks in a row came out good
 pub record Passed {A B : Type 0} (x : Outcome A) (k : A → Outcome B) (b : B) : Type 0 where
   pub value : A

@@ -22,12 +22,18 @@ use Rattle.rules.specs.declared.Allowed.the-variants.{Any, Exactly24, Mu
 use Rattle.rules.specs.declared.Known.{Known}
 
 -- the first PT_DYNAMIC of the n headers from i on, or i + n
+unfoldable pub isDynamicAt : List ℕ → Headers → ℕ → Bool
+isDynamicAt f h i = isDynamic (headerAt f h i)
+
 unfoldable pub dynamicFrom : List ℕ → Headers → ℕ → ℕ → ℕ
-dynamicFrom f h i n = first (λ j. isDynamic (headerAt f h j)) i n
+dynamicFrom f h i n = first (isDynamicAt f h) i n
 
 -- the first entry with tag 0 of the n that stand at a place of the file
+unfoldable pub isNullAt : List ℕ → ℕ → ℕ → Bool
+isNullAt f at i = eqb (le 8 f (at + 16 * i)) 0
+
 unfoldable pub nullEntry : List ℕ → ℕ → ℕ → ℕ
-nullEntry f at n = first (λ i. eqb (le 8 f (at + 16 * i)) 0) 0 n
+nullEntry f at n = first (isNullAt f at) 0 n
 
 -- a multiple of 16 from 16 to 4,096
 unfoldable pub goodSize : ℕ → Bool
@@ -96,12 +102,18 @@ allows Flag v = ltb v 2
 allows Never v = false
 
 -- the row of a tag, or how many rows there are
+unfoldable pub isRow : List Known → ℕ → ℕ → Bool
+isRow known tag r = eqb (rowAt known r .tag) tag
+
 unfoldable pub rowOf : List Known → ℕ → ℕ
-rowOf known tag = first (λ r. eqb (rowAt known r .tag) tag) 0 (length known)
+rowOf known tag = first (isRow known tag) 0 (length known)
 
 -- the first of the first n entries that has a tag, or n
+unfoldable pub hasTagAt : List ℕ → Dynamic → ℕ → ℕ → Bool
+hasTagAt f d tag i = eqb (tagAt f d i) tag
+
 unfoldable pub tagBefore : List ℕ → Dynamic → ℕ → ℕ → ℕ
-tagBefore f d tag n = first (λ j. eqb (tagAt f d j) tag) 0 n
+tagBefore f d tag n = first (hasTagAt f d tag) 0 n
 
 -- check 6: an entry with a known tag whose value is not allowed, or whose tag an earlier entry has
 unfoldable pub badEntry : List Known → List ℕ → Dynamic → ℕ → Bool

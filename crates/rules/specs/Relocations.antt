@@ -79,8 +79,11 @@ barred Undefined = false
 barred Barred = true
 
 -- one of the first n entries, not skipped, has the place
+unfoldable pub hasPlace : List ℕ → Relocations → ℕ → ℕ → Bool
+hasPlace f r p i = live f r i && eqb (placeAt f r i) p
+
 unfoldable pub taken : List ℕ → Relocations → ℕ → ℕ → Bool
-taken f r p n = someBelow (λ j. live f r j && eqb (placeAt f r j) p) n
+taken f r p n = someBelow (hasPlace f r p) n
 
 -- a multiple of 8 whose eight bytes are inside the memory part of one writable PT_LOAD, and no earlier entry's place
 unfoldable pub goodPlace : List ℕ → Headers → Relocations → ℕ → Bool

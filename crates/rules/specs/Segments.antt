@@ -80,15 +80,21 @@ backs a n s = isLoad s && (covers (s .vaddr) (s .filesz) a n && leb (s .offset +
 abbrev pub placeIn : Segment → ℕ → Place
 placeIn s a = At (s .offset + (a - s .vaddr))
 
+unfoldable pub backsAt : List ℕ → Headers → ℕ → ℕ → ℕ → Bool
+backsAt f h a n i = backs a n (headerAt f h i)
+
 unfoldable pub backing : List ℕ → Headers → ℕ → ℕ → ℕ
-backing f h a n = first (λ i. backs a n (headerAt f h i)) 0 (h .count)
+backing f h a n = first (backsAt f h a n) 0 (h .count)
 
 unfoldable pub placeOf : List ℕ → Headers → ℕ → ℕ → Place
 placeOf f h a n = cond (ltb (backing f h a n) (h .count)) (placeIn (headerAt f h (backing f h a n)) a) Nowhere
 
 -- the n bytes from a are inside the memory part of a PT_LOAD, a writable one where that is asked
 unfoldable pub holds : Bool → ℕ → ℕ → Segment → Bool
-holds write a n s = isLoad s && (covers (s .vaddr) (s .memsz) a n && (not write || writable s))
+holds write a n s = isLoad s && ((not write || writable s) && covers (s .vaddr) (s .memsz) a n)
+
+unfoldable pub holdsAt : List ℕ → Headers → Bool → ℕ → ℕ → ℕ → Bool
+holdsAt f h write a n i = holds write a n (headerAt f h i)
 
 unfoldable pub inMemory : List ℕ → Headers → Bool → ℕ → ℕ → Bool
-inMemory f h write a n = someBelow (λ i. holds write a n (headerAt f h i)) (h .count)
+inMemory f h write a n = someBelow (holdsAt f h write a n) (h .count)

@@ -1,0 +1,32 @@
+-- The loop keeps that the first wrong byte is the first from here on.
+-- Assumes nothing.
+use Rattle.rules.specs.Headers.{wrongByte, identificationCheck}
+use Rattle.rules.proofs.FirstLaws.{first-step, first-hit, first-none, faultless-hit, faultless-none}
+use Rattle.rules.specs.First.{first}
+use mathlib.Core.Path.{_≡_, sym, _∙_}
+use Prim.Native.Nat.{_≤_, _-_}
+use native.Mathlib.Omega.{arith}
+use borrow.Author.Needs.{needs}
+use Rattle.headers.proofs.check_identification.Statement.{statement}
+use Rattle.headers.proofs.check_identification.Tie as tie
+
+abbrev Inv-loop : tie.InvT-loop
+Inv-loop f i₀ i = (i ≤ 7) × (first (wrongByte f) 0 7 ≡ first (wrongByte f) i (7 - i))
+
+abbrev μ-loop : tie.MeasureT-loop
+μ-loop f i₀ i = 7 - i
+
+returns : tie.Need-returns Inv-loop μ-loop
+unfolding identificationCheck
+returns c = let l = c .before .before .before .loop in let t = wrongByte (c .before .before .before .before .before .args .f .now) in sym (faultless-hit 2 t 7 (l .i) (l .inv .1 ∙ first-hit t (l .i) 7 (omega arith) (sym (c .before .is-wrong-at .ensures) ∙ c .if1 .taken)) (omega arith))
+
+loop-again : tie.Need-loop-again Inv-loop μ-loop
+loop-again c = let l = c .before .before .before .loop in let t = wrongByte (c .before .before .before .before .before .args .f .now) in (omega arith, l .inv .1 ∙ first-step t (l .i) 7 (omega arith) (sym (c .before .is-wrong-at .ensures) ∙ c .if1 .left))
+
+returns-2 : tie.Need-returns-2 Inv-loop μ-loop
+unfolding identificationCheck
+returns-2 c = let l = c .before .loop in let t = wrongByte (c .before .before .before .args .f .now) in sym (faultless-none 2 t 7 (l .inv .1 ∙ first-none t (l .i) 7 (omega arith) (omega arith)))
+
+pub check-identification-spec : {M : Type 1} → statement M
+check-identification-spec =
+    tie.close (tie.spec Inv-loop μ-loop (search needs) (search needs) returns (search needs) (search needs) loop-again returns-2)
