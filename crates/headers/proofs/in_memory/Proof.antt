@@ -22,10 +22,10 @@ loop-holds c = (omega arith, rw sub-zero)
 
 returns : tie.Need-returns Inv-loop μ-loop
 unfolding inMemory
-returns c = let l = c .before .before .before .loop in let a = c .before .before .before .before .before .args in let t = holdsAt (a .f .now) (a .h) (a .write) (a .a) (a .n) in sym (some-hit t (a .h .count) (l .i) (omega arith) (l .inv .1 ∙ first-hit t (l .i) (a .h .count) (omega arith) (sym (c .before .is-holding-at .ensures) ∙ c .if1 .taken)))
+returns c = let l = c .before .before .before .loop in let a = c .before .before .before .before .before .args in let t = holdsAt (a .f .now) (a .h) (a .write) (a .a) (a .n) in sym (some-hit t (a .h .count) (l .i) (omega arith) (l .inv .1 ∙ first-hit t (l .i) (a .h .count) (omega arith) (rw (← c .before .is-holding-at .ensures) (c .if1 .taken))))
 
 loop-again : tie.Need-loop-again Inv-loop μ-loop
-loop-again c = let l = c .before .before .before .loop in let a = c .before .before .before .before .before .args in let t = holdsAt (a .f .now) (a .h) (a .write) (a .a) (a .n) in (omega arith, l .inv .1 ∙ first-step t (l .i) (a .h .count) (omega arith) (sym (c .before .is-holding-at .ensures) ∙ c .if1 .left))
+loop-again c = let l = c .before .before .before .loop in let a = c .before .before .before .before .before .args in let t = holdsAt (a .f .now) (a .h) (a .write) (a .a) (a .n) in (omega arith, l .inv .1 ∙ first-step t (l .i) (a .h .count) (omega arith) (rw (← c .before .is-holding-at .ensures) (c .if1 .left)))
 
 returns-2 : tie.Need-returns-2 Inv-loop μ-loop
 unfolding inMemory

@@ -23,14 +23,14 @@ loop-holds c = (omega arith, rw sub-zero)
 
 place-in-requires : tie.Need-place-in-requires Inv-loop μ-loop
 unfolding backsAt
-place-in-requires c κs = rw (c .header-at .ensures) (sym (c .before .before .is-backing-at .ensures) ∙ c .before .if1 .taken)
+place-in-requires c κs = rw (c .header-at .ensures) (rw (← c .before .before .is-backing-at .ensures) (c .before .if1 .taken))
 
 returns : tie.Need-returns Inv-loop μ-loop
 unfolding placeOf backing
-returns c = let l = c .before .before .before .before .before .loop in let a = c .before .before .before .before .before .before .before .args in let t = backsAt (a .f .now) (a .h) (a .a) (a .n) in let e : first t 0 (a .h .count) ≡ l .i = l .inv .1 ∙ first-hit t (l .i) (a .h .count) (omega arith) (sym (c .before .before .before .is-backing-at .ensures) ∙ c .before .before .if1 .taken) in rw (e, lt-ltb (l .i) (a .h .count) (omega arith), ← c .before .header-at .ensures) (c .place-in .ensures)
+returns c = let l = c .before .before .before .before .before .loop in let a = c .before .before .before .before .before .before .before .args in let t = backsAt (a .f .now) (a .h) (a .a) (a .n) in let e : first t 0 (a .h .count) ≡ l .i = l .inv .1 ∙ first-hit t (l .i) (a .h .count) (omega arith) (rw (← c .before .before .before .is-backing-at .ensures) (c .before .before .if1 .taken)) in rw (e, lt-ltb (l .i) (a .h .count) (omega arith), ← c .before .header-at .ensures) (c .place-in .ensures)
 
 loop-again : tie.Need-loop-again Inv-loop μ-loop
-loop-again c = let l = c .before .before .before .loop in let a = c .before .before .before .before .before .args in let t = backsAt (a .f .now) (a .h) (a .a) (a .n) in (omega arith, l .inv .1 ∙ first-step t (l .i) (a .h .count) (omega arith) (sym (c .before .is-backing-at .ensures) ∙ c .if1 .left))
+loop-again c = let l = c .before .before .before .loop in let a = c .before .before .before .before .before .args in let t = backsAt (a .f .now) (a .h) (a .a) (a .n) in (omega arith, l .inv .1 ∙ first-step t (l .i) (a .h .count) (omega arith) (rw (← c .before .is-backing-at .ensures) (c .if1 .left)))
 
 returns-2 : tie.Need-returns-2 Inv-loop μ-loop
 unfolding placeOf backing

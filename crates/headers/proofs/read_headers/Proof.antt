@@ -29,4 +29,4 @@ returns-7 c = rw (← c .before .before .before .before .before .before .before 
 
 pub read-headers-spec : {M : Type 1} → statement M
 read-headers-spec =
-    tie.close (tie.spec (search needs) (search needs) (search needs) (search needs) (search needs) (search needs) returns-2 (search needs) (search needs) (search needs) (search needs) (search needs) (search needs) returns-4 (search needs) (search needs) (search needs) (search needs) (search needs) (search needs) returns-6 (search needs) cast-t12 (search needs) returns-7)
+    tie.close (tie.spec (search needs) (search needs) (search needs) (search needs) (search needs) (λ c. search needs) returns-2 (search needs) (search needs) (search needs) (search needs) (search needs) (λ c. search needs) returns-4 (search needs) (search needs) (search needs) (search needs) (search needs) (λ c. search needs) returns-6 (search needs) cast-t12 (search needs) returns-7)
