@@ -4,3 +4,5 @@ pub mod OutcomeLaws
 pub mod MemoryLaws
 pub mod Tests
 pub mod BoolLaws
+pub mod UlebLaws
+pub mod BenchLaws

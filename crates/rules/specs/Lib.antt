@@ -13,3 +13,5 @@ pub mod Answers
 pub mod Memory
 pub mod Load
 pub mod Plain
+pub mod Numbers
+pub mod Bench

@@ -1,5 +1,8 @@
 // The types that the layers share. The rules themselves are the definitions in specs/, a file a section of document 01.
 
+// Global descriptors: the reading of one at a cursor. A method stands in the crate of its struct.
+pub mod encoding;
+
 // Why a call was refused: document 01's number and position.
 pub struct Refusal {
     pub number: u8,

@@ -1,0 +1,9 @@
+-- The marked rows of the bench sheet hold by computation.
+-- Assumes nothing.
+use mathlib.Core.Path.{refl}
+use Rattle.rules.specs.Descriptors.{stepAt, descriptor, second, placed, ulebIn}
+use Rattle.rules.specs.Bench.{BenchHolds}
+
+pub bench : BenchHolds
+unfolding stepAt descriptor second placed ulebIn
+bench = refl
