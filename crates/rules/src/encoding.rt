@@ -24,14 +24,17 @@ const ULEB_BYTES: usize = 10;
 // A byte at least this has another after it.
 const MORE: u8 = 128;
 
-// What a byte is worth, in units of the byte before it.
+// A byte counts this many times as much as the one before it.
 const RADIX: u64 = 128;
 
 // The tenth byte is below this.
 const TENTH_LIMIT: u8 = 2;
 
-// The low bits of a first number that are the size.
+// A first number's size is below this, and its distance counts in units of this.
 const SIZES: u64 = 8;
+
+// A second number and this are the size.
+const SIZE_OFFSET: u64 = 1;
 
 // Bytes of a granule.
 const GRANULE: u64 = 16;
@@ -101,7 +104,7 @@ fn refused(number: u8, index: u64) -> Step
     Step::Refused(r)
 }
 
-// A global of one granule more than `less`.
+// A global whose size is `less` and 1 more, for it may be 2^64 granules.
 fn place(index: u64, end: u64, distance: u64, less: u64, next: u64) -> Step
     requires { ⌜ end ≤ addressLimit ⌝ }
     ensures { λ r. ⌜ ofStep r ≡ placed index end distance (less + 1) next ⌝ }
@@ -113,13 +116,13 @@ fn place(index: u64, end: u64, distance: u64, less: u64, next: u64) -> Step
         return refused(BAD_GLOBAL, index);
     }
     let start = end + GRANULE * distance;
-    let stop = start + GRANULE * (less + 1);
+    let stop = start + GRANULE * (less + SIZE_OFFSET);
     if ADDRESS_LIMIT < stop {
         return refused(BAD_GLOBAL, index);
     }
     let g = Global {
         start: start,
-        granules: less + 1,
+        granules: less + SIZE_OFFSET,
     };
     let c = Cursor {
         position: next,
@@ -153,7 +156,7 @@ fn step_first(index: u64, s: &[u8], end: u64, at: usize) -> Step
     if size == 0 {
         step_second(index, s, end, v / SIZES, next)
     } else {
-        place(index, end, v / SIZES, size - 1, next as u64)
+        place(index, end, v / SIZES, size - SIZE_OFFSET, next as u64)
     }
 }
 
