@@ -1,6 +1,5 @@
 -- The cases of the enum that reading a ULEB128 number answers.
 -- Assumes nothing.
-use Prim.Native.Nat.{ℕ}
 use Rattle.rules.specs.Descriptors.{Uleb, number, malformed}
 use Rattle.rules.specs.declared.encoding.Uleb as declared
 use Rattle.rules.specs.declared.encoding.Uleb.the-variants as read

@@ -2,7 +2,6 @@
 -- Assumes nothing.
 use Rattle.rules.specs.Descriptors.{stepAt}
 use Rattle.rules.proofs.Tests.{tests}
-use native.Mathlib.Omega.{arith}
 use borrow.Author.Needs.{needs}
 use Rattle.rules.proofs.Cursor.step.Statement.{statement}
 use Rattle.rules.proofs.Cursor.step.Tie as tie

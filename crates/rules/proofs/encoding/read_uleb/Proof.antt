@@ -1,6 +1,6 @@
 -- From turn to turn the number from the start on is what has been read, with the rest of the number above it.
 -- Assumes nothing.
-use Prim.Native.Nat.{_≤_, _<_, _^_, _-_, _+_, _*_}
+use Prim.Native.Nat.{_≤_, _<_, _^_, _-_}
 use mathlib.Core.Path.{_≡_}
 use native.Mathlib.Omega.{arith}
 use borrow.Author.Needs.{needs}

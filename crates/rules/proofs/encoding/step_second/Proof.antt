@@ -1,7 +1,6 @@
 -- The cases of the second number are those of the definition.
 -- Assumes nothing.
 use Rattle.rules.specs.Descriptors.{second}
-use native.Mathlib.Omega.{arith}
 use borrow.Author.Needs.{needs}
 use Rattle.rules.proofs.encoding.step_second.Statement.{statement}
 use Rattle.rules.proofs.encoding.step_second.Tie as tie
