@@ -62,15 +62,16 @@ namedTarget f place.Nowhere = Barred
 namedTarget f (place.At at) = targetOf (symbolOf f at)
 
 -- RELATIVE must have symbol 0, ABS64 and GLOB_DAT another; no other kind is allowed
-unfoldable pub target : List ℕ → Headers → Dynamic → ℕ → ℕ → Target
-target f h d kind symbol =
+unfoldable pub target : List ℕ → Headers → Entry → ℕ → ℕ → Target
+target f h symbols kind symbol =
     cond (eqb kind 1027) (cond (eqb symbol 0) Base Barred)
     (cond (eqb kind 257 || eqb kind 1025)
-    (cond (eqb symbol 0) Barred (namedTarget f (symbolPlace f h symbol (entryOf f d 6))))
+    (cond (eqb symbol 0) Barred (namedTarget f (symbolPlace f h symbol symbols)))
     Barred)
 
+-- the target of the entry of index i; tag 6 is the symbol table
 abbrev pub targetAt : List ℕ → Headers → Dynamic → Relocations → ℕ → Target
-targetAt f h d r i = target f h d (kindAt f r i) (symbolAt f r i)
+targetAt f h d r i = target f h (entryOf f d 6) (kindAt f r i) (symbolAt f r i)
 
 abbrev pub barred : Target → Bool
 barred Base = false
@@ -85,12 +86,13 @@ hasPlace f r p i = live f r i && eqb (placeAt f r i) p
 unfoldable pub taken : List ℕ → Relocations → ℕ → ℕ → Bool
 taken f r p n = someBelow (hasPlace f r p) n
 
--- a multiple of 8 whose eight bytes are inside the memory part of one writable PT_LOAD, and no earlier entry's place
+-- a multiple of 8 whose eight bytes are inside the memory part of one writable PT_LOAD
+unfoldable pub placeFits : List ℕ → Headers → ℕ → Bool
+placeFits f h p = eqb (p % 8) 0 && inMemory f h true p 8
+
+-- and no earlier entry's place
 unfoldable pub goodPlace : List ℕ → Headers → Relocations → ℕ → Bool
-goodPlace f h r i =
-    eqb (placeAt f r i % 8) 0
-    && (inMemory f h true (placeAt f r i) 8
-    && not (taken f r (placeAt f r i) i))
+goodPlace f h r i = placeFits f h (placeAt f r i) && not (taken f r (placeAt f r i) i)
 
 -- an entry that check 10 or 11 refuses
 unfoldable pub badRelocation : List ℕ → Headers → Dynamic → Relocations → ℕ → Bool

@@ -1,0 +1,235 @@
+// Checks 10 and 11: the relocation entries, their kinds, symbols and places.
+ghost use mathlib.Core.Path.{_≡_};
+ghost use mathlib.Core.Bool.{cond, _||_};
+ghost use Prim.Native.Nat.{_≤_};
+ghost use lib.Dec.{eqb};
+ghost use Rattle.rules.specs.Relocations.{placeAt, kindAt, symbolAt, addendAt, live, symbolPlace, symbolOf, targetOf, namedTarget, target, barred, placeFits, hasPlace, wordsOf};
+ghost use Rattle.relocations.specs.Walk.{entryFault, rivalsFrom};
+use rules::Entry;
+use rules::Headers;
+use rules::Place;
+use rules::Relocations;
+use rules::Symbol;
+use rules::Target;
+
+const R_AARCH64_ABS64: u32 = 257;
+
+const R_AARCH64_GLOB_DAT: u32 = 1025;
+
+const R_AARCH64_RELATIVE: u32 = 1027;
+
+const STT_TLS: u8 = 6;
+
+const STT_GNU_IFUNC: u8 = 10;
+
+const STB_WEAK: u8 = 2;
+
+const SHN_LORESERVE: u16 = 0xff00;
+
+const SYMBOL_BYTES: u64 = 24;
+
+const MEMORY_LIMIT: u64 = 1048576;
+
+// An entry's place.
+pub fn place_at(f: &[u8], r: Relocations, i: u16) -> u64
+    ensures { λ v. ⌜ v ≡ placeAt (now (f .entry)) r i ⌝ }
+{
+    reads::read64(f, r.at as usize + 24 * (i as usize))
+}
+
+// An entry's kind.
+pub fn kind_at(f: &[u8], r: Relocations, i: u16) -> u32
+    ensures { λ v. ⌜ v ≡ kindAt (now (f .entry)) r i ⌝ }
+{
+    reads::read32(f, r.at as usize + 24 * (i as usize) + 8)
+}
+
+// An entry's symbol.
+pub fn symbol_at(f: &[u8], r: Relocations, i: u16) -> u32
+    ensures { λ v. ⌜ v ≡ symbolAt (now (f .entry)) r i ⌝ }
+{
+    reads::read32(f, r.at as usize + 24 * (i as usize) + 12)
+}
+
+// An entry's addend, as its eight bytes.
+pub fn addend_at(f: &[u8], r: Relocations, i: u16) -> u64
+    ensures { λ v. ⌜ v ≡ addendAt (now (f .entry)) r i ⌝ }
+{
+    reads::read64(f, r.at as usize + 24 * (i as usize) + 16)
+}
+
+// An entry is not skipped.
+pub fn is_live(f: &[u8], r: Relocations, i: u16) -> bool
+    ensures { λ v. ⌜ v ≡ live (now (f .entry)) r i ⌝ }
+{
+    kind_at(f, r, i) != 0
+}
+
+// Where the entry of symbol n is backed.
+fn symbol_place(f: &[u8], h: Headers, n: u32, symbols: Entry) -> Place
+    ensures { λ v. ⌜ v ≡ symbolPlace (now (f .entry)) h n symbols ⌝ }
+{
+    let Entry::Value(table) = symbols else {
+        return Place::Nowhere;
+    };
+    let offset = SYMBOL_BYTES * (n as u64);
+    if reads::sum_within(table, offset, MEMORY_LIMIT) {
+        return headers::place_of(f, h, table + offset, SYMBOL_BYTES);
+    }
+    Place::Nowhere
+}
+
+// The symbol entry at a position of the file.
+fn symbol_of(f: &[u8], at: u32) -> Symbol
+    ensures { λ v. ⌜ v ≡ symbolOf (now (f .entry)) at ⌝ }
+{
+    let p = at as usize;
+    Symbol {
+        info: reads::byte_at(f, p + 4),
+        section: reads::read16(f, p + 6),
+        value: reads::read64(f, p + 8),
+    }
+}
+
+// What a symbol refers to, where it is allowed.
+fn target_of(s: Symbol) -> Target
+    ensures { λ v. ⌜ v ≡ targetOf s ⌝ }
+{
+    let info = s.info;
+    let section = s.section;
+    let value = s.value;
+    if info % 16 == STT_TLS {
+        return Target::Barred;
+    }
+    if info % 16 == STT_GNU_IFUNC {
+        return Target::Barred;
+    }
+    if SHN_LORESERVE <= section {
+        return Target::Barred;
+    }
+    if section != 0 {
+        return Target::Defined(value);
+    }
+    if info / 16 == STB_WEAK {
+        return Target::Undefined;
+    }
+    Target::Barred
+}
+
+fn named_target(f: &[u8], p: Place) -> Target
+    ensures { λ v. ⌜ v ≡ namedTarget (now (f .entry)) p ⌝ }
+{
+    let Place::At(at) = p else {
+        return Target::Barred;
+    };
+    let s = symbol_of(f, at);
+    target_of(s)
+}
+
+// The kinds that have a symbol.
+fn is_symbolic(kind: u32) -> bool
+    ensures { λ v. ⌜ v ≡ (eqb kind 257 || eqb kind 1025) ⌝ }
+{
+    if kind == R_AARCH64_ABS64 {
+        return true;
+    }
+    kind == R_AARCH64_GLOB_DAT
+}
+
+// What an entry of a kind and a symbol refers to.
+pub fn find_target(f: &[u8], h: Headers, symbols: Entry, kind: u32, symbol: u32) -> Target
+    ensures { λ v. ⌜ v ≡ target (now (f .entry)) h symbols kind symbol ⌝ }
+{
+    if kind == R_AARCH64_RELATIVE {
+        if symbol == 0 {
+            return Target::Base;
+        }
+        return Target::Barred;
+    }
+    if is_symbolic(kind) {
+        if symbol == 0 {
+            return Target::Barred;
+        }
+        let p = symbol_place(f, h, symbol, symbols);
+        return named_target(f, p);
+    }
+    Target::Barred
+}
+
+fn is_barred(t: Target) -> bool
+    ensures { λ v. ⌜ v ≡ barred t ⌝ }
+{
+    match t {
+        Target::Base => false,
+        Target::Defined(_) => false,
+        Target::Undefined => false,
+        Target::Barred => true,
+    }
+}
+
+// A multiple of 8 whose eight bytes are in writable memory.
+fn place_fits(f: &[u8], h: Headers, p: u64) -> bool
+    ensures { λ v. ⌜ v ≡ placeFits (now (f .entry)) h p ⌝ }
+{
+    if p % 8 != 0 {
+        return false;
+    }
+    headers::in_memory(f, h, true, p, 8)
+}
+
+// Checks 10 and 11 of one entry, but for its place's earlier entries: 0, 10 or 11.
+fn entry_fault(f: &[u8], h: Headers, symbols: Entry, r: Relocations, i: u16) -> u8
+    ensures { λ v. ⌜ v ≡ entryFault (now (f .entry)) h symbols r i ⌝ }
+{
+    let kind = kind_at(f, r, i);
+    if kind == 0 {
+        return 0;
+    }
+    let symbol = symbol_at(f, r, i);
+    let t = find_target(f, h, symbols, kind, symbol);
+    if is_barred(t) {
+        return 10;
+    }
+    let p = place_at(f, r, i);
+    if place_fits(f, h, p) {
+        return 0;
+    }
+    11
+}
+
+fn rivals_from(f: &[u8], r: Relocations, i: u16) -> u16
+    ensures { λ v. ⌜ v ≡ rivalsFrom (now (f .entry)) r i ⌝ }
+{
+    if is_live(f, r, i) {
+        return 0;
+    }
+    i
+}
+
+// An entry that is not skipped has the place.
+fn has_place(f: &[u8], r: Relocations, p: u64, i: u16) -> bool
+    ensures { λ v. ⌜ v ≡ hasPlace (now (f .entry)) r p i ⌝ }
+{
+    if is_live(f, r, i) {
+        return place_at(f, r, i) == p;
+    }
+    false
+}
+
+fn one_if(b: bool) -> u16
+    ensures { λ v. ⌜ (v ≡ cond b 1 0) × (v ≤ 1) ⌝ }
+{
+    if b { 1 } else { 0 }
+}
+
+// How many words are relocated.
+pub fn count_words(f: &[u8], r: Relocations) -> u16
+    ensures { λ v. ⌜ v ≡ wordsOf (now (f .entry)) r ⌝ }
+{
+    let n = r.entries;
+    let mut words: u16 = 0;
+    for i in 0..n {
+        words += one_if(is_live(f, r, i));
+    }
+    words
+}
