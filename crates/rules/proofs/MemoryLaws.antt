@@ -2,11 +2,11 @@
 -- Assumes nothing.
 use mathlib.Core.Path.{_≡_, refl, sym, ap, _∙_, subst}
 use mathlib.Core.List.{List, [], _∷_, _++_}
-use Prim.Native.Nat.{ℕ, zero, suc, _+_, _≤_, _<_, zero-le, suc-le-suc}
+use Prim.Native.Nat.{ℕ, zero, suc, _+_, _-_, _≤_, _<_, zero-le, suc-le-suc, min}
 use native.Mathlib.Nat.{not-suc-le-zero, le-of-suc-le-suc, suc-add}
 use native.Mathlib.Numerals.{add-one}
 use native.Mathlib.Omega.{arith}
-use lib.ListN.{length, replicate, length-take, length-drop, length-replicate, set, take, drop, getD}
+use lib.ListN.{length, replicate, length-take, length-drop, length-replicate, take-append-drop, set, take, drop, getD}
 use Rattle.rules.specs.Memory.{over, put}
 
 pub over-nil : (d : List ℕ) → over d [] ≡ d
@@ -144,3 +144,56 @@ put-in zero j d s h l =
     rw z (over-in j d s h (omega arith))
 put-in (suc a) j [] s h l = absurd (not-suc-le-zero l)
 put-in (suc a) j (x ∷ d) s h l = rw suc-add (put-in a j d s h (omega arith))
+
+-- a part that reaches the end, whatever the length of what is put over it
+over-rest : (k : ℕ) (d s : List ℕ) → length d ≤ k → over (take k d) s ++ drop k d ≡ over d s
+unfolding over
+over-rest zero [] s h = refl
+over-rest zero (x ∷ d) s h = absurd (not-suc-le-zero h)
+over-rest (suc k) [] s h = refl
+over-rest (suc k) (x ∷ d) [] h = ap (λ (t : List ℕ). x ∷ t) (take-append-drop k d)
+over-rest (suc k) (x ∷ d) (y ∷ s) h = ap (λ (t : List ℕ). y ∷ t) (over-rest k d s (le-of-suc-le-suc h))
+
+rest-put : (a k : ℕ) (d s : List ℕ) → length d ≤ a + k → take a d ++ (over (take k (drop a d)) s ++ drop k (drop a d)) ≡ put d a s
+unfolding put over
+rest-put zero k d s h = over-rest k d s (omega arith)
+rest-put (suc a) k [] s h = over-rest k [] s zero-le
+rest-put (suc a) k (x ∷ d) s h = ap (λ (t : List ℕ). x ∷ t) (rest-put a k d s (omega arith))
+
+-- such a part that was lent, and came back as e
+pub put-rest : (a k : ℕ) (d s e : List ℕ) → length d ≤ a + k → e ≡ over (take k (drop a d)) s
+    → take a d ++ (e ++ drop k (drop a d)) ≡ put d a s
+put-rest a k d s e h p = rw p (rest-put a k d s h)
+
+-- past the end nothing is put
+pub put-out : (a : ℕ) (d s : List ℕ) → length d ≤ a → put d a s ≡ d
+unfolding put over
+put-out zero [] s h = refl
+put-out zero (x ∷ d) s h = absurd (not-suc-le-zero h)
+put-out (suc a) [] s h = refl
+put-out (suc a) (x ∷ d) s h = ap (λ (t : List ℕ). x ∷ t) (put-out a d s (le-of-suc-le-suc h))
+
+-- only what there is room for counts
+pub over-take : (k : ℕ) (d s : List ℕ) → min (length d) (length s) ≤ k → over d (take k s) ≡ over d s
+unfolding over
+over-take k [] s h = refl
+over-take zero (x ∷ d) [] h = refl
+over-take zero (x ∷ d) (y ∷ s) h = absurd (omega arith)
+over-take (suc k) (x ∷ d) [] h = refl
+over-take (suc k) (x ∷ d) (y ∷ s) h = ap (λ (t : List ℕ). y ∷ t) (over-take k d s (omega arith))
+
+pub put-take : (a k : ℕ) (d s : List ℕ) → min (length d - a) (length s) ≤ k → put d a (take k s) ≡ put d a s
+unfolding put
+put-take zero k d s h = over-take k d s (omega arith)
+put-take (suc a) k [] s h = refl
+put-take (suc a) k (x ∷ d) s h = ap (λ (t : List ℕ). x ∷ t) (put-take a k d s (omega arith))
+
+take-replicate : (n k v : ℕ) → n ≤ k → replicate n v ≡ take n (replicate k v)
+take-replicate zero k v h = refl
+take-replicate (suc n) zero v h = absurd (not-suc-le-zero h)
+take-replicate (suc n) (suc k) v h = ap (λ (t : List ℕ). v ∷ t) (take-replicate n k v (le-of-suc-le-suc h))
+
+pub put-fill : (a n k v : ℕ) (d : List ℕ) → n ≡ min k (length d - a) → put d a (replicate n v) ≡ put d a (replicate k v)
+put-fill a n k v d h =
+    let r : min (length d - a) (length (replicate k v)) ≤ n = simp length-replicate (omega arith) in
+    rw (take-replicate n k v (omega arith)) (put-take a n d (replicate k v) r)

@@ -1,0 +1,11 @@
+-- `words::byte_at` meets its contract: past the end a list's element is the 0 asked for.
+-- Assumes nothing.
+use mathlib.Core.Path.{sym}
+use native.Mathlib.Omega.{arith}
+use lib.ListN.{List·getD-eq-default}
+use borrow.Author.Needs.{needs}
+use Rattle.words.proofs.byte_at.Statement.{statement}
+use Rattle.words.proofs.byte_at.Tie as tie
+
+pub byte-at-spec : {M : Type 1} → statement M
+byte-at-spec = tie.close (tie.spec (search needs) (search needs) (λ c. sym (List·getD-eq-default (c .before .args .s .now) 0 (omega arith))))
