@@ -13,7 +13,6 @@ use Rattle.rules.specs.Limits.{granule}
 use Rattle.rules.specs.Memory.{signed, mod64}
 use Rattle.rules.specs.Load.{tagAddress}
 use Rattle.rules.specs.Answers.{inRange}
-use Rattle.rules.specs.declared.Address.{Address}
 use Rattle.rules.specs.declared.Address.the-variants.{At, Outside}
 
 -- by cases on a test

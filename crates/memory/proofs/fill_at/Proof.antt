@@ -1,9 +1,9 @@
 -- `memory::fill_at` meets its contract: the part that was lent comes back all v, and past the end nothing is put.
 -- Assumes nothing.
-use Prim.Native.Nat.{ℕ, _+_, _-_}
+use Prim.Native.Nat.{_+_, _-_}
 use mathlib.Core.Path.{sym, _∙_}
 use native.Mathlib.Omega.{arith}
-use lib.ListN.{length, replicate}
+use lib.ListN.{replicate}
 use borrow.Author.Needs.{needs}
 use Rattle.rules.proofs.MemoryLaws.{fill-part, put-fill, put-out}
 use Rattle.memory.proofs.fill_at.Statement.{statement}

@@ -1,10 +1,9 @@
 -- `memory::put_bytes` meets its contract: the part from the place on comes back with the bytes over its front, and past the end nothing is put.
 -- Assumes nothing.
-use Prim.Native.Nat.{ℕ, _-_}
-use mathlib.Core.Path.{sym, ap, _∙_}
-use mathlib.Core.List.{List, _++_}
+use Prim.Native.Nat.{_-_}
+use mathlib.Core.Path.{sym}
 use native.Mathlib.Omega.{arith}
-use lib.ListN.{length, take, drop}
+use lib.ListN.{length}
 use borrow.Author.Needs.{needs}
 use Rattle.rules.proofs.MemoryLaws.{put-rest, put-out}
 use Rattle.memory.proofs.put_bytes.Statement.{statement}

@@ -16,6 +16,12 @@ returns-2 c =
     let A = c .before .before .before .before .before .args in
     rw (T .1) (c .distance-tag .ensures ∙ tag-distance (A .plane .now) (A .bias) (A .n) (A .bias + T .0 .0) (T .0 .0) refl)
 
+returns-3 : tie.Need-returns-3
+returns-3 c = cc
+
+returns-4 : tie.Need-returns-4
+returns-4 c = cc
+
 pub source-tag-spec : {M : Type 1} → statement M
 source-tag-spec =
     tie.close
@@ -29,5 +35,5 @@ source-tag-spec =
     (search needs)
     returns
     returns-2
-    (λ c. rw (c .enum-told2 .given .1))
-    (λ c. rw (c .enum-told3 .given .1)))
+    returns-3
+    returns-4)
