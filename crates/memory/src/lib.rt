@@ -46,11 +46,12 @@ pub fn put_bytes(m: &mut [u8], at: usize, src: &[u8])
 pub fn fill_at(m: &mut [u8], at: usize, count: usize, v: u8)
     ensures { λ _. ⌜ now (m .exit) ≡ put (now (m .entry)) at (replicate count v) ⌝ }
 {
-    if at <= m.len() {
-        let n = lesser(count, m.len() - at);
-        let end = at + n;
-        fill(&mut m[at..end], v);
+    if m.len() < at {
+        return;
     }
+    let n = lesser(count, m.len() - at);
+    let end = at + n;
+    fill(&mut m[at..end], v);
 }
 
 // The eight bytes of m at at, which m has, become those of w, the lowest first.
@@ -75,37 +76,15 @@ fn store_word(m: &mut [u8], at: usize, w: u64)
     m[at + 7] = (w7 % 256) as u8;
 }
 
-// The same for a word that may pass the end of m.
-fn store_front(m: &mut [u8], at: usize, w: u64)
-    ensures { λ _. ⌜ now (m .exit) ≡ putWord (now (m .entry)) at w ⌝ }
-{
-    let w1 = w / 256;
-    let w2 = w1 / 256;
-    let w3 = w2 / 256;
-    let w4 = w3 / 256;
-    let w5 = w4 / 256;
-    let w6 = w5 / 256;
-    let w7 = w6 / 256;
-    let bytes = [
-        (w % 256) as u8,
-        (w1 % 256) as u8,
-        (w2 % 256) as u8,
-        (w3 % 256) as u8,
-        (w4 % 256) as u8,
-        (w5 % 256) as u8,
-        (w6 % 256) as u8,
-        (w7 % 256) as u8,
-    ];
-    put_bytes(m, at, &bytes);
-}
-
 // The eight bytes of m from at on become those of w, the lowest first.
 pub fn put64(m: &mut [u8], at: usize, w: u64)
     ensures { λ _. ⌜ now (m .exit) ≡ putWord (now (m .entry)) at w ⌝ }
 {
     if at <= m.len() && 8 <= m.len() - at {
         store_word(m, at, w);
-    } else {
-        store_front(m, at, w);
+        return;
     }
+    let mut bytes = [0; 8];
+    store_word(&mut bytes, 0, w);
+    put_bytes(m, at, &bytes);
 }

@@ -11,17 +11,17 @@ use Rattle.memory.proofs.fill_at.Tie as tie
 
 returns : tie.Need-returns
 returns c =
+    let A = c .before .before .args in
+    sym (put-out (A .at) (A .m .now) (replicate (A .count) (A .v)) (omega arith))
+
+returns-2 : tie.Need-returns-2
+returns-2 c =
     let A = c .before .before .before .before .before .before .before .args in
     let n = c .before .before .before .before .lesser .result in
     fill-part (A .at) n (A .at + n - A .at) (A .v) (A .m .now) _ (omega arith) (omega arith) (c .before .before .fill .ensures)
     ∙ put-fill (A .at) n (A .count) (A .v) (A .m .now) (omega arith)
 
-returns-2 : tie.Need-returns-2
-returns-2 c =
-    let A = c .before .before .args in
-    sym (put-out (A .at) (A .m .now) (replicate (A .count) (A .v)) (omega arith))
-
 pub fill-at-spec : {M : Type 1} → statement M
 fill-at-spec =
     tie.close
-    (tie.spec (search needs) (search needs) (search needs) (search needs) (search needs) (search needs) (search needs) (search needs) returns returns-2)
+    (tie.spec returns (search needs) (search needs) (search needs) (search needs) (search needs) (search needs) (search needs) (search needs) returns-2)
