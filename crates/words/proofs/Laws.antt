@@ -1,4 +1,4 @@
--- Sums with a two's complement number, by its sign.
+-- Sums with a two's complement number, by its sign, and the tag at an address.
 -- Assumes nothing.
 use Prim.Native.Nat.{ℕ, suc, _+_, _-_, _/_, _%_, _^_, _≤_, _<_}
 use mathlib.Core.Path.{_≡_, refl, sym, ap, _∙_}

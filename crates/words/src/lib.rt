@@ -18,6 +18,7 @@ const ADDRESS_LIMIT: u64 = 281474976710656;
 // Addends from here on are below 0.
 const NEGATIVE: u64 = 9223372036854775808;
 
+// The largest u64.
 const LARGEST: u64 = 18446744073709551615;
 
 // Bytes of a granule.
@@ -40,7 +41,7 @@ fn offset_address(base: u64, addend: u64) -> Address
         }
         return Address::Outside;
     }
-    // the addend takes less + 1 away
+    // The addend takes less + 1 away.
     let less = LARGEST - addend;
     if base <= less {
         return Address::Outside;
