@@ -11,9 +11,11 @@ use lib.ListN.{getD}
 use lib.IntN.{ℤ, pos, negsuc, _+ℤ_}
 use Rattle.rules.specs.Limits.{granule}
 use Rattle.rules.specs.Memory.{signed, mod64}
-use Rattle.rules.specs.Load.{tagAddress}
+use Rattle.rules.specs.Load.{tagAddress, sourceTag}
 use Rattle.rules.specs.Answers.{inRange}
 use Rattle.rules.specs.declared.Address.the-variants.{At, Outside}
+use Rattle.rules.specs.declared.Target.{Target}
+use Rattle.rules.specs.declared.Target.the-variants.{Undefined, Barred}
 
 -- by cases on a test
 by-ltb : (P : Bool → Type 0) (a b : ℕ) → (a < b → P true) → (b ≤ a → P false) → P (ltb a b)
@@ -86,3 +88,11 @@ module _ (plane : List ℕ) (bias n : ℕ) where
       (by-ltb (λ t. cond t (getD plane (distance / granule) 0) 0 ≡ cond (ltb (bias + distance) (bias + n)) (getD plane (distance / granule) 0) 0) distance n
       (λ l. rw (lt-ltb (bias + distance) (bias + n) (omega arith)))
       (λ l. rw (le-ltb (bias + distance) (bias + n) (omega arith))))
+
+-- what has no address of its own takes no tag
+module _ (plane : List ℕ) (bias n : ℕ) (t : Target) (addend loaded : ℕ) where
+  pub undefined-tag : t ≡ Undefined → 0 ≡ sourceTag plane bias n t addend loaded
+  undefined-tag e = rw e
+
+  pub barred-tag : t ≡ Barred → 0 ≡ sourceTag plane bias n t addend loaded
+  barred-tag e = rw e

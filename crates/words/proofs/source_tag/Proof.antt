@@ -3,7 +3,7 @@
 use Prim.Native.Nat.{_+_}
 use mathlib.Core.Path.{refl, _∙_}
 use borrow.Author.Needs.{needs}
-use Rattle.words.proofs.Laws.{tag-distance}
+use Rattle.words.proofs.Laws.{tag-distance, undefined-tag, barred-tag}
 use Rattle.words.proofs.source_tag.Statement.{statement}
 use Rattle.words.proofs.source_tag.Tie as tie
 
@@ -17,10 +17,10 @@ returns-2 c =
     rw (T .1) (c .distance-tag .ensures ∙ tag-distance (A .plane .now) (A .bias) (A .n) (A .bias + T .0 .0) (T .0 .0) refl)
 
 returns-3 : tie.Need-returns-3
-returns-3 c = cc
+returns-3 c = search undefined-tag
 
 returns-4 : tie.Need-returns-4
-returns-4 c = cc
+returns-4 c = search barred-tag
 
 pub source-tag-spec : {M : Type 1} → statement M
 source-tag-spec =
