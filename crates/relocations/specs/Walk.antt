@@ -3,7 +3,7 @@
 use Prim.Native.Nat.{ℕ}
 use mathlib.Core.Bool.{Bool, cond}
 use mathlib.Core.List.{List}
-use Rattle.rules.specs.Relocations.{placeAt, kindAt, symbolAt, live, target, barred, placeFits}
+use Rattle.rules.specs.Relocations.{placeAt, live, targetIn, barred, placeFits}
 use Rattle.rules.specs.declared.Headers.{Headers}
 use Rattle.rules.specs.declared.Entry.{Entry}
 use Rattle.rules.specs.declared.Relocations.{Relocations}
@@ -12,7 +12,7 @@ use Rattle.rules.specs.declared.Relocations.{Relocations}
 unfoldable pub entryFault : List ℕ → Headers → Entry → Relocations → ℕ → ℕ
 entryFault f h symbols r i =
     cond (live f r i)
-    (cond (barred (target f h symbols (kindAt f r i) (symbolAt f r i))) 10
+    (cond (barred (targetIn f h symbols r i)) 10
     (cond (placeFits f h (placeAt f r i)) 0 11))
     0
 

@@ -3,11 +3,15 @@ ghost use mathlib.Core.Path.{_≡_};
 ghost use mathlib.Core.Bool.{cond, _||_};
 ghost use Prim.Native.Nat.{_≤_};
 ghost use lib.Dec.{eqb};
-ghost use Rattle.rules.specs.Relocations.{placeAt, kindAt, symbolAt, addendAt, live, symbolPlace, symbolOf, targetOf, namedTarget, target, barred, placeFits, hasPlace, wordsOf};
+ghost use Rattle.rules.specs.Relocations.{placeAt, kindAt, symbolAt, addendAt, live, symbolPlace, symbolOf, targetOf, namedTarget, target, barred, placeFits, hasPlace, relocationsIn, wordsOf};
+ghost use Rattle.rules.specs.Outcome.{refuse};
+ghost use Rattle.rules.specs.Answers.{ofChecked};
 ghost use Rattle.relocations.specs.Walk.{entryFault, rivalsFrom};
+use rules::Checked;
 use rules::Entry;
 use rules::Headers;
 use rules::Place;
+use rules::Refusal;
 use rules::Relocations;
 use rules::Symbol;
 use rules::Target;
@@ -214,6 +218,43 @@ fn has_place(f: &[u8], r: Relocations, p: u64, i: u16) -> bool
         return place_at(f, r, i) == p;
     }
     false
+}
+
+fn refused(number: u8, i: u16) -> Checked
+    ensures { λ v. ⌜ ofChecked v ≡ refuse number i ⌝ }
+{
+    let r = Refusal {
+        number: number,
+        position: i as u64,
+    };
+    Checked::Refused(r)
+}
+
+// Checks 10 and 11: the entries in table order, each against the places of the entries before it.
+pub fn check_relocations(f: &[u8], h: Headers, symbols: Entry, r: Relocations) -> Checked
+    ensures { λ v. ⌜ ofChecked v ≡ relocationsIn (now (f .entry)) h symbols r ⌝ }
+{
+    let n = r.entries;
+    let mut i: u16 = 0;
+    'entries: while i < n {
+        let number = entry_fault(f, h, symbols, r, i);
+        if number != 0 {
+            return refused(number, i);
+        }
+        let place = place_at(f, r, i);
+        let mut j = rivals_from(f, r, i);
+        while j < i {
+            if has_place(f, r, place, j) {
+                break 'entries;
+            }
+            j += 1;
+        }
+        i += 1;
+    }
+    if i < n {
+        return refused(11, i);
+    }
+    Checked::Passed
 }
 
 fn one_if(b: bool) -> u16

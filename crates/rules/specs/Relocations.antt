@@ -69,9 +69,13 @@ target f h symbols kind symbol =
     (cond (eqb symbol 0) Barred (namedTarget f (symbolPlace f h symbol symbols)))
     Barred)
 
--- the target of the entry of index i; tag 6 is the symbol table
+-- the target of the entry of index i, by the symbol table's entry
+abbrev pub targetIn : List ℕ → Headers → Entry → Relocations → ℕ → Target
+targetIn f h symbols r i = target f h symbols (kindAt f r i) (symbolAt f r i)
+
+-- tag 6 is the symbol table
 abbrev pub targetAt : List ℕ → Headers → Dynamic → Relocations → ℕ → Target
-targetAt f h d r i = target f h (entryOf f d 6) (kindAt f r i) (symbolAt f r i)
+targetAt f h d r i = targetIn f h (entryOf f d 6) r i
 
 abbrev pub barred : Target → Bool
 barred Base = false
@@ -95,17 +99,20 @@ unfoldable pub goodPlace : List ℕ → Headers → Relocations → ℕ → Bool
 goodPlace f h r i = placeFits f h (placeAt f r i) && not (taken f r (placeAt f r i) i)
 
 -- an entry that check 10 or 11 refuses
-unfoldable pub badRelocation : List ℕ → Headers → Dynamic → Relocations → ℕ → Bool
-badRelocation f h d r i = live f r i && (barred (targetAt f h d r i) || not (goodPlace f h r i))
+unfoldable pub badRelocation : List ℕ → Headers → Entry → Relocations → ℕ → Bool
+badRelocation f h symbols r i = live f r i && (barred (targetIn f h symbols r i) || not (goodPlace f h r i))
 
-unfoldable pub firstBad : List ℕ → Headers → Dynamic → Relocations → ℕ
-firstBad f h d r = first (badRelocation f h d r) 0 (r .entries)
+unfoldable pub firstBad : List ℕ → Headers → Entry → Relocations → ℕ
+firstBad f h symbols r = first (badRelocation f h symbols r) 0 (r .entries)
 
 -- the walk of checks 10 and 11, 10 before 11 at each entry
+unfoldable pub relocationsIn : List ℕ → Headers → Entry → Relocations → Outcome (Unit {0})
+relocationsIn f h symbols r =
+    cond (eqb (firstBad f h symbols r) (r .entries)) (good tt)
+    (refuse (cond (barred (targetIn f h symbols r (firstBad f h symbols r))) 10 11) (firstBad f h symbols r))
+
 unfoldable pub relocationsCheck : List ℕ → Headers → Dynamic → Relocations → Outcome (Unit {0})
-relocationsCheck f h d r =
-    cond (eqb (firstBad f h d r) (r .entries)) (good tt)
-    (refuse (cond (barred (targetAt f h d r (firstBad f h d r))) 10 11) (firstBad f h d r))
+relocationsCheck f h d r = relocationsIn f h (entryOf f d 6) r
 
 -- the words relocated: entries not skipped
 unfoldable pub wordsOf : List ℕ → Relocations → ℕ

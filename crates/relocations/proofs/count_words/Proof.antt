@@ -1,3 +1,5 @@
+-- The loop keeps the count below the index.
+-- Assumes nothing.
 use native.Mathlib.Numerals.{add-one}
 use mathlib.Core.Path.{_≡_, refl, ap, _∙_}
 use Prim.Native.Nat.{ℕ, _≤_, _-_}
@@ -8,10 +10,6 @@ use native.Mathlib.Omega.{arith}
 use borrow.Author.Needs.{needs}
 use Rattle.relocations.proofs.count_words.Statement.{statement}
 use Rattle.relocations.proofs.count_words.Tie as tie
-use Rattle.relocations.proofs.count_words.Reads as reads
-use Rattle.relocations.proofs.count_words.Lts as lts
-use Rattle.relocations.proofs.is_live.Reads as is-live-reads
-use Rattle.relocations.proofs.one_if.Reads as one-if-reads
 
 abbrev Inv-loop : tie.InvT-loop
 Inv-loop f r n words₀ i₀ words i = (i ≤ n) × (words ≡ countBelow (live f r) i)
@@ -19,52 +17,21 @@ Inv-loop f r n words₀ i₀ words i = (i ≤ n) × (words ≡ countBelow (live 
 abbrev μ-loop : tie.MeasureT-loop
 μ-loop f r n words₀ i₀ words i = n - i
 
--- src/lib.rt:219:5
 loop-holds : tie.Need-loop-holds Inv-loop μ-loop
 unfolding countBelow
 loop-holds c = (omega arith, refl)
 
--- src/lib.rt:220:25
-is-live-requires : tie.Need-is-live-requires Inv-loop μ-loop
-is-live-requires c κs = search needs
-
--- src/lib.rt:220:18
-one-if-requires : tie.Need-one-if-requires Inv-loop μ-loop
-one-if-requires c κs = search needs
-
--- src/lib.rt:220:9
 add-words : tie.Need-add-words Inv-loop μ-loop
 add-words c = let a = c .before .before .before .before .before .args in omega (arith, count-le (live (a .f .now) (a .r)) (c .before .before .before .loop .i))
 
--- src/lib.rt:219:9
-add-i : tie.Need-add-i Inv-loop μ-loop
-add-i c = search needs
-
--- src/lib.rt:219:5
-loop-less : tie.Need-loop-less Inv-loop μ-loop
-loop-less c = search needs
-
--- src/lib.rt:219:5
 loop-again : tie.Need-loop-again Inv-loop μ-loop
 unfolding countBelow
 loop-again c = (omega arith, rw (add-one, ← c .before .before .before .loop .inv .1, ← c .before .is-live .ensures, ← c .one-if .ensures .0))
 
--- src/lib.rt:214:1
 returns : tie.Need-returns Inv-loop μ-loop
 unfolding wordsOf
 returns c = let l = c .before .loop in let a = c .before .before .before .args in let e : l .i ≡ a .r .entries = omega arith in l .inv .1 ∙ ap (λ (k : ℕ). countBelow (live (a .f .now) (a .r)) k) e
 
 pub count-words-spec : {M : Type 1} → statement M
 count-words-spec =
-    tie.close
-    (tie.spec
-    Inv-loop
-    μ-loop
-    loop-holds
-    is-live-requires
-    one-if-requires
-    add-words
-    add-i
-    loop-less
-    loop-again
-    returns)
+    tie.close (tie.spec Inv-loop μ-loop loop-holds (search needs) (search needs) add-words (search needs) (search needs) loop-again returns)

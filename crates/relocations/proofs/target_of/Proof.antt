@@ -1,38 +1,30 @@
+-- The tests in their order.
+-- Assumes nothing.
 use Rattle.rules.proofs.Tests.{tests}
 use Rattle.rules.specs.Relocations.{targetOf}
-use native.Mathlib.Omega.{arith}
-use borrow.Author.Needs.{needs}
 use Rattle.relocations.proofs.target_of.Statement.{statement}
 use Rattle.relocations.proofs.target_of.Tie as tie
-use Rattle.relocations.proofs.target_of.Reads as reads
-use Rattle.relocations.proofs.target_of.Lts as lts
 
--- src/lib.rt:100:9
 returns : tie.Need-returns
 unfolding targetOf
 returns c = search tests
 
--- src/lib.rt:103:9
 returns-2 : tie.Need-returns-2
 unfolding targetOf
 returns-2 c = search tests
 
--- src/lib.rt:106:9
 returns-3 : tie.Need-returns-3
 unfolding targetOf
 returns-3 c = search tests
 
--- src/lib.rt:109:9
 returns-4 : tie.Need-returns-4
 unfolding targetOf
 returns-4 c = search tests
 
--- src/lib.rt:112:9
 returns-5 : tie.Need-returns-5
 unfolding targetOf
 returns-5 c = search tests
 
--- src/lib.rt:93:1
 returns-6 : tie.Need-returns-6
 unfolding targetOf
 returns-6 c = search tests
