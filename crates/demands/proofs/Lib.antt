@@ -1,0 +1,9 @@
+pub mod Exactly
+pub mod Reading
+pub mod Plane
+pub mod Image
+pub mod Sources
+pub mod Standing
+pub mod Tags
+pub mod Refusals
+pub mod Theorem

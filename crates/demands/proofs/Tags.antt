@@ -1,0 +1,193 @@
+-- A load against the plain loader, against its own plane, and against a load with other choices.
+-- Assumes nothing.
+use Prim.Native.Nat.{ℕ, suc, _*_, _≤_, _<_}
+use mathlib.Core.Path.{_≡_, refl, sym, ap, _∙_}
+use mathlib.Core.Bool.{Bool, true, false, cond, _&&_}
+use mathlib.Core.List.{List}
+use mathlib.Core.Logic.{inl, inr, ⊎-elim}
+use native.Mathlib.Nat.{eq-or-lt-of-le}
+use native.Mathlib.Omega.{arith}
+use lib.ListN.{length, getD}
+use lib.Dec.{eqb}
+use Rattle.rules.specs.Outcome.{Outcome, good, bad, require, refusal}
+use Rattle.rules.specs.First.{first, faultless}
+use Rattle.rules.specs.Bytes.{le}
+use Rattle.rules.specs.Relocations.{placeAt, addendAt, targetAt}
+use Rattle.rules.specs.Load.{loadOf, loaded, loadsEnd, imageOf, natural, addressAt, badChoice, choicesCheck, globalsIn, globalAt, endOf, planeOf, writes, memoryFits, planeFits}
+use Rattle.rules.specs.Plain.{plainOf}
+use Rattle.rules.specs.declared.Refusal.{Refusal}
+use Rattle.rules.specs.declared.Global.{Global}
+use Rattle.rules.specs.declared.Module.{Module}
+use Rattle.laws.proofs.Checks.{le-or-lt, andThen-bad, require-stopped}
+use Rattle.laws.proofs.KnownTags.{entries-base}
+use Rattle.demands.proofs.Exactly.{exactly}
+use Rattle.laws.proofs.Globals.{Rising}
+use Rattle.demands.proofs.Plane.{Chosen, plane-holds, plane-empty}
+use Rattle.demands.proofs.Image.{image-size}
+use Rattle.demands.proofs.Sources.{tagOf, source-tag, tag-held, tag-unheld}
+use Rattle.laws.proofs.Writes.{writes-length, writes-agree, writes-at, low-bytes, top-byte, bare-byte}
+use Rattle.demands.proofs.Standing.{Stands, passes-stands, word, tag, tag-small}
+use Rattle.demands.specs.Demands.{Reads, Passes, by-choices, Relocates, topPlace, sourceAt, Holds, Abut, NoTop, Agrees, Matches, Alike, Rechosen, refused-again, taken-again, Tags}
+
+-- of two globals in rising order, one that ends where the other starts is the one before it
+abut-next : (gs : List Global) (limit : ℕ) → Rising gs limit → (i j : ℕ) → i < length gs → j < length gs
+    → endOf (globalAt gs i) ≡ globalAt gs j .start → suc i ≡ j
+abut-next gs limit rising i j l u e =
+    let a = rising .each i l in
+    let b = rising .each j u in
+    ⊎-elim
+    (λ (after : j ≤ i).
+    ⊎-elim
+    (λ (q : j ≡ i). absurd (let z : endOf (globalAt gs i) ≡ globalAt gs i .start = rw q at e in omega arith))
+    (λ (q : j < i). absurd (let z = rising .rise j i q l in omega arith))
+    (eq-or-lt-of-le after))
+    (λ (before : i < j).
+    ⊎-elim
+    (λ (q : suc i ≡ j). q)
+    (λ (q : suc i < j).
+    absurd
+    (let c = rising .each (suc i) (omega arith) in
+    let y = rising .rise i (suc i) (omega arith) (omega arith) in
+    let z = rising .rise (suc i) j q u in
+    omega arith))
+    (eq-or-lt-of-le before))
+    (le-or-lt j i)
+
+-- choices of globals that abut differ
+choices-differ : (gs : List Global) (limit : ℕ) (choices : List ℕ) → Rising gs limit → Chosen gs choices → (i j : ℕ) → i < length gs → j < length gs
+    → Abut (globalAt gs i) (globalAt gs j) → getD choices j 0 ≡ getD choices i 0 → ⊥
+choices-differ gs limit choices rising chosen i j l u (inl e) q =
+    let n = abut-next gs limit rising i j l u e in
+    chosen .differ i (omega arith) (rw n e) (rw n (sym q))
+choices-differ gs limit choices rising chosen i j l u (inr e) q =
+    let n = abut-next gs limit rising j i u l e in
+    chosen .differ j (omega arith) (rw n e) (rw n q)
+
+-- check 14 refuses with its own number
+faultless-number : {r : Refusal} (number : ℕ) (f : ℕ → Bool) (n : ℕ) → faultless number f n ≡ bad r → r .number ≡ number
+faultless-number {r} number f n h = go (eqb (first f 0 n) n) h
+  where
+    go : (b : Bool) → cond {A = Outcome (Unit {0})} b (good tt) (bad (refusal number (first f 0 n))) ≡ bad r → r .number ≡ number
+    go true e = absurd (let z : _≡_ {A = ℕ} 0 1 = cc in omega arith)
+    go false e = let z : refusal number (first f 0 n) ≡ r = cc in sym (ap (λ (r : Refusal). r .number) z)
+
+choices-number : (gs : List Global) (choices : List ℕ) (r : Refusal) → choicesCheck gs choices ≡ bad r → r .number ≡ 14
+unfolding choicesCheck
+choices-number gs choices r e =
+    andThen-bad (require (eqb (length choices) (length gs)) 14 (length gs)) _ e
+    (λ q. ap (λ (r : Refusal). r .number) (require-stopped (eqb (length choices) (length gs)) 14 (length gs) q .1))
+    (λ _ _ q. faultless-number 14 (badChoice gs choices) (length gs) q)
+
+module _ (f : List ℕ) (bias n p : ℕ) (m : Module) where
+  -- the bare word of an entry, and the plain memory
+  abbrev pub bareWord : ℕ → ℕ
+  bareWord k = natural (addressAt f (m .headers) (m .dynamic) (m .relocations) bias k)
+
+  abbrev pub plainMemory : List ℕ
+  plainMemory = writes f (m .relocations) bareWord (imageOf f (m .headers) n) (m .relocations .entries)
+
+  abbrev pub taggedMemory : List ℕ → List ℕ
+  taggedMemory choices = writes f (m .relocations) (word f bias n p choices m) (imageOf f (m .headers) n) (m .relocations .entries)
+
+  -- the plain loader takes what the load takes
+  plain-takes : (choices : List ℕ) → Passes f bias n p choices m → Reads f m → plainOf f bias n ≡ good plainMemory
+  unfolding plainOf
+  plain-takes choices c r =
+      let e = entries-base f (m .dynamic) (r .entries) in
+      rw (r .headers, r .loads, r .dynamic, e, r .relocations, c .relocates, c .memory-fits, c .addresses)
+
+  -- memories with bare and with tagged words, or with tags of two lists of choices
+  bare-tagged : (choices : List ℕ) (x : ℕ) → NoTop f m x → getD plainMemory x 0 ≡ getD (taggedMemory choices) x 0
+  bare-tagged choices x out =
+      writes-agree f (m .relocations) (imageOf f (m .headers) n) bareWord (word f bias n p choices m)
+      (λ k. sym (low-bytes (bareWord k) (tag f bias n p choices m k))) (m .relocations .entries) x
+      (λ k l t. out k (record { listed = l; unskipped = t }))
+
+  module _ (choices : List ℕ) (s : Stands f bias n p choices m) where
+    fits : loadsEnd f (m .headers) ≤ 16 * p
+    fits = let h = s .lent .holds in let e = s .planed in omega arith
+
+    top-tag : (k : ℕ) → Relocates f m k → getD (taggedMemory choices) (topPlace f m k) 0 ≡ tag f bias n p choices m k
+    top-tag k e =
+        writes-at f (m .relocations) (imageOf f (m .headers) n) (word f bias n p choices m) (m .relocations .entries) (s .apart)
+        k 7 (e .listed) (e .unskipped) (omega arith)
+        ∙ top-byte (bareWord k) (tag f bias n p choices m k) (s .small k e) (tag-small f bias n p choices m s k)
+
+    entry-tag : (k : ℕ) → tag f bias n p choices m k ≡ tagOf (planeOf (globalsIn f m) choices p) bias n (sourceAt f m bias n k)
+    entry-tag k =
+        source-tag (planeOf (globalsIn f m) choices p) bias (length (imageOf f (m .headers) n))
+        (targetAt f (m .headers) (m .dynamic) (m .relocations) k) (addendAt f (m .relocations) k)
+        (le 8 (imageOf f (m .headers) n) (placeAt f (m .relocations) k))
+        ∙ ap (λ (z : ℕ). tagOf (planeOf (globalsIn f m) choices p) bias z (sourceAt f m bias n k)) (image-size f (m .headers) n)
+
+    held-top : (k j : ℕ) → Relocates f m k → j < length (globalsIn f m) → Holds bias (globalAt (globalsIn f m) j) (sourceAt f m bias n k)
+        → getD (taggedMemory choices) (topPlace f m k) 0 ≡ getD choices j 0
+    held-top k j e l h =
+        top-tag k e ∙ entry-tag k
+        ∙ tag-held (globalsIn f m) choices p (loadsEnd f (m .headers)) (s .rising) fits bias n (s .planed) j l (sourceAt f m bias n k) h
+
+    agrees : Agrees f bias n choices m plainMemory (taggedMemory choices)
+    agrees = record {
+      same-length = writes-length f (m .relocations) (imageOf f (m .headers) n) bareWord (m .relocations .entries)
+          ∙ sym (writes-length f (m .relocations) (imageOf f (m .headers) n) (word f bias n p choices m) (m .relocations .entries));
+      others = bare-tagged choices;
+      bare = λ k e.
+          writes-at f (m .relocations) (imageOf f (m .headers) n) bareWord (m .relocations .entries) (s .apart) k 7 (e .listed) (e .unskipped) (omega arith)
+          ∙ bare-byte (bareWord k) (s .small k e);
+      held = held-top;
+      unheld = λ k e out.
+          top-tag k e ∙ entry-tag k
+          ∙ tag-unheld (globalsIn f m) choices p (loadsEnd f (m .headers)) (s .rising) fits bias n (s .planed) (sourceAt f m bias n k) out;
+    }
+
+    matching : (k j : ℕ) → Relocates f m k → j < length (globalsIn f m) → Holds bias (globalAt (globalsIn f m) j) (sourceAt f m bias n k)
+        → Matches f bias n p m (loaded f m bias n p choices) k j
+    matching k j e l h =
+        let t = held-top k j e l h in
+        let P = plane-holds (globalsIn f m) choices p (loadsEnd f (m .headers)) (s .rising) fits in
+        record {
+          own = λ x w. t ∙ sym (P .described j x l w);
+          abutting = λ i x u a w q.
+              choices-differ (globalsIn f m) (loadsEnd f (m .headers)) choices (s .rising) (s .chosen) i j u l a
+              (sym t ∙ q ∙ P .described i x u w);
+          outside = λ x u out q. let z = P .undescribed x u out in let b = s .chosen .tag j l in omega arith;
+        }
+
+    alike : (choices′ : List ℕ) → Alike f p m (loaded f m bias n p choices) (loaded f m bias n p choices′)
+    alike choices′ = record {
+      same-facts = refl;
+      same-plane = λ x u out.
+          plane-empty (globalsIn f m) choices′ p (loadsEnd f (m .headers)) (s .rising) fits x out
+          ∙ sym (plane-empty (globalsIn f m) choices p (loadsEnd f (m .headers)) (s .rising) fits x out);
+      same-memory = λ x out. sym (bare-tagged choices′ x out) ∙ bare-tagged choices x out;
+    }
+
+    rechoosing : Passes f bias n p choices m → (choices′ : List ℕ) → Rechosen f p m (loaded f m bias n p choices) (loadOf f bias n p choices′)
+    rechoosing c choices′ = go (choicesCheck (globalsIn f m) choices′) refl
+      where
+        go : (o : Outcome (Unit {0})) → choicesCheck (globalsIn f m) choices′ ≡ o
+            → Rechosen f p m (loaded f m bias n p choices) (loadOf f bias n p choices′)
+        go (good u) e =
+            taken-again (loaded f m bias n p choices′)
+            (exactly f bias n p choices′ .taken-if m (record {
+              reads = c .reads;
+              relocates = c .relocates;
+              memory-fits = c .memory-fits;
+              plane-fits = c .plane-fits;
+              addresses = c .addresses;
+              chosen = e;
+            }))
+            (alike choices′)
+        go (bad r) e =
+            let both : (memoryFits (loadsEnd f (m .headers)) n bias && planeFits n p) ≡ true = rw (c .memory-fits, c .plane-fits) in
+            refused-again r (exactly f bias n p choices′ .refused-if r (by-choices m (c .reads) (c .relocates) both (c .addresses) e))
+            (choices-number (globalsIn f m) choices′ r e)
+
+  pub tags : (choices : List ℕ) → Passes f bias n p choices m → Tags f bias n p choices m (loaded f m bias n p choices)
+  tags choices c =
+      let s = passes-stands f bias n p choices m c in
+      record {
+        against-plain = record { plain = plainMemory; takes = plain-takes choices c (s .reading); agrees = agrees choices s };
+        matches = matching choices s;
+        rechosen = rechoosing choices s c;
+      }

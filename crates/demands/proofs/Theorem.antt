@@ -1,0 +1,48 @@
+-- The demands of `specs/Demands.antt`, of every file, bias, memory, plane and list of choices.
+-- Assumes nothing.
+use Prim.Native.Nat.{ℕ}
+use mathlib.Core.Path.{_≡_, refl, sym, subst}
+use mathlib.Core.List.{List}
+use mathlib.Core.Logic.{_⊎_, inl, inr}
+use Rattle.rules.specs.Outcome.{Outcome, good, bad}
+use Rattle.rules.specs.Examine.{moduleOf}
+use Rattle.rules.specs.Load.{Loaded, loadOf, loaded}
+use Rattle.rules.specs.declared.Refusal.{Refusal}
+use Rattle.rules.specs.declared.Module.{Module}
+use Rattle.demands.proofs.Exactly.{exactly, taken-passes}
+use Rattle.demands.proofs.Reading.{exactly-read}
+use Rattle.demands.proofs.Standing.{passes-stands, leaves}
+use Rattle.demands.proofs.Refusals.{examines, load-refusal, load-facts}
+use Rattle.demands.proofs.Tags.{tags}
+use Rattle.demands.specs.Demands.{Passes, Leaves, Tags, Claim}
+
+-- an outcome is one of the two
+either-outcome : (o : Outcome Loaded) → ((l : Loaded) × (o ≡ good l)) ⊎ ((r : Refusal) × (o ≡ bad r))
+either-outcome (good l) = inl (l, refl)
+either-outcome (bad r) = inr (r, refl)
+
+-- what holds of every module that passes holds of the module and the answer of every load that is taken
+of-taken : (f : List ℕ) (bias n p : ℕ) (choices : List ℕ) (P : Module → Loaded → Type 0)
+    → ((m : Module) → Passes f bias n p choices m → P m (loaded f m bias n p choices))
+    → (m : Module) (l : Loaded) → moduleOf f ≡ good m → loadOf f bias n p choices ≡ good l → P m l
+of-taken f bias n p choices P h m l a e =
+    let t = taken-passes f bias n p choices l e in
+    let b = t .passes .reads in
+    let q : t .from ≡ m = cc in
+    subst (λ (m : Module). P m l) q (subst (λ (l : Loaded). P (t .from) l) (sym (t .leaves)) (h (t .from) (t .passes)))
+
+pub demands : Claim
+demands f bias n p choices = record {
+  examines = examines f;
+  answers = record {
+    either = either-outcome (loadOf f bias n p choices);
+    load-refusal = load-refusal f bias n p choices;
+    load-facts = load-facts f bias n p choices;
+    memory-kept = λ r lent e. rw e;
+    plane-kept = λ r lent e. rw e;
+  };
+  exactly-read = exactly-read f;
+  exactly = exactly f bias n p choices;
+  leaves = of-taken f bias n p choices (Leaves f bias n p choices) (λ m c. leaves f bias n p choices m (passes-stands f bias n p choices m c));
+  tags = of-taken f bias n p choices (Tags f bias n p choices) (λ m c. tags f bias n p m choices c);
+}

@@ -1,0 +1,160 @@
+-- Globals that pass checks 8 and 9 are whole granules in rising order, inside the PT_LOADs.
+-- Assumes nothing.
+use Prim.Native.Nat.{ℕ, zero, suc, _+_, _*_, _/_, _%_, _≤_, _<_}
+use mathlib.Core.Path.{_≡_, refl, subst}
+use mathlib.Core.Bool.{Bool, true, false, cond}
+use mathlib.Core.List.{List, [], _∷_}
+use native.Mathlib.Omega.{arith}
+use lib.ListN.{length}
+use lib.Dec.{leb, ltb, eqb}
+use borrow.Author.Tests.{eqb-true, eqb-false}
+use Rattle.rules.specs.Outcome.{good, bad, andThen, refusal}
+use Rattle.rules.specs.Limits.{granule, globalLimit, addressLimit}
+use Rattle.rules.specs.Segments.{loadsCheck, inMemory}
+use Rattle.rules.specs.Descriptors.{Uleb, number, malformed, Read, finished, global, ulebAt, placed, second, descriptor, stepAt, onGlobal, globalsFrom, globalsOf, descriptorTable, tableStart}
+use Rattle.rules.specs.Load.{loadsEnd, endOf, globalAt}
+use Rattle.rules.specs.declared.Headers.{Headers}
+use Rattle.rules.specs.declared.Descriptors.{Descriptors}
+use Rattle.rules.specs.declared.Global.{Global}
+use Rattle.rules.specs.declared.Cursor.{Cursor}
+use Rattle.rules.proofs.OutcomeLaws.{andThen-good, cond-held}
+use Rattle.laws.proofs.Checks.{good-same}
+use Rattle.laws.proofs.Loads.{in-memory}
+
+-- a global that follows an end, with the cursor after it
+pub record Follows (end : ℕ) (g : Global) (c : Cursor) : Type 0 where
+  pub starts : end ≤ g .start
+  pub aligned : g .start % 16 ≡ end % 16
+  pub filled : 1 ≤ g .granules
+  pub ends : c .end ≡ endOf g
+
+-- of what a step found
+abbrev pub Next : ℕ → Read → Type 0
+Next end finished = Unit
+Next end (global g c) = Follows end g c
+
+placed-next : (index end distance granules next : ℕ) (r : Read) → 1 ≤ granules → placed index end distance granules next ≡ good r → Next end r
+unfolding placed
+placed-next index end distance granules next r l h =
+    let q = cond-held _ (leb (end + granule * distance + granule * granules) addressLimit) _ h in
+    good-same (λ r. Next end r) _ r (q .1) (record { starts = omega arith; aligned = omega arith; filled = l; ends = refl })
+
+second-next : (index end distance : ℕ) (u : Uleb) (r : Read) → second index end distance u ≡ good r → Next end r
+unfolding second
+second-next index end distance (number v next) r h = placed-next index end distance (v + 1) next r (omega arith) h
+second-next index end distance malformed r h = absurd (let z : _≡_ {A = ℕ} 0 1 = cc in omega arith)
+
+descriptor-next : (index : ℕ) (s : List ℕ) (end : ℕ) (u : Uleb) (r : Read) → descriptor index s end u ≡ good r → Next end r
+unfolding descriptor
+descriptor-next index s end (number v next) r h = go (eqb (v % 8) 0) refl h
+  where
+    go : (b : Bool) → eqb (v % 8) 0 ≡ b → cond b (second index end (v / 8) (ulebAt s next)) (placed index end (v / 8) (v % 8) next) ≡ good r → Next end r
+    go true e h = second-next index end (v / 8) (ulebAt s next) r h
+    go false e h =
+        let ne = eqb-false (v % 8) 0 e in
+        placed-next index end (v / 8) (v % 8) next r (omega arith) h
+descriptor-next index s end malformed r h = absurd (let z : _≡_ {A = ℕ} 0 1 = cc in omega arith)
+
+step-next : (index : ℕ) (s : List ℕ) (c : Cursor) (r : Read) → stepAt index s c ≡ good r → (c .end % 16 ≡ 0) × Next (c .end) r
+unfolding stepAt
+step-next index s c r h =
+    let a = cond-held _ (leb (c .position) (length s)) _ h in
+    let b = cond-held _ (eqb (c .end % granule) 0) _ (a .1) in
+    let d = cond-held _ (leb (c .end) addressLimit) _ (b .1) in
+    (eqb-true (c .end % granule) 0 (b .0), go (ltb (c .position) (length s)) (d .1))
+  where
+    go : (t : Bool) → cond t (descriptor index s (c .end) (ulebAt s (c .position))) (good finished) ≡ good r → Next (c .end) r
+    go true e = descriptor-next index s (c .end) (ulebAt s (c .position)) r e
+    go false e = good-same (λ r. Next (c .end) r) finished r e tt
+
+-- globals one after the other from an end on, all of them by a limit
+pub record Linked (Rest : Type 0) (limit end : ℕ) (g : Global) : Type 0 where
+  pub starts : end ≤ g .start
+  pub aligned : g .start % 16 ≡ 0
+  pub filled : 1 ≤ g .granules
+  pub inside : endOf g ≤ limit
+  pub rest : Rest
+
+abbrev pub Chain : ℕ → ℕ → List Global → Type 0
+Chain limit end [] = Unit
+Chain limit end (g ∷ gs) = Linked (Chain limit (endOf g) gs) limit end g
+
+module _ (f : List ℕ) (h : Headers) (s : List ℕ) (passed : loadsCheck f h ≡ good tt) where
+  pub globals-from : (n i : ℕ) (c : Cursor) (gs : List Global) → globalsFrom f h s n i c ≡ good gs
+      → Chain (loadsEnd f h) (c .end) gs × (length gs ≤ n)
+  unfolding globalsFrom
+  globals-from zero i c gs e = go (ltb (c .position) (length s)) e
+    where
+      go : (b : Bool) → cond b (bad (refusal 9 i)) (good []) ≡ good gs → Chain (loadsEnd f h) (c .end) gs × (length gs ≤ 0)
+      go true q = absurd (let z : _≡_ {A = ℕ} 0 1 = cc in omega arith)
+      go false q = good-same (λ gs. Chain (loadsEnd f h) (c .end) gs × (length gs ≤ 0)) [] gs q (tt, omega arith)
+  globals-from (suc n) i c gs e =
+      let a = andThen-good (stepAt i s c) _ e in
+      let st = step-next i s c (a .value) (a .here) in
+      go (a .value) (st .0) (st .1) (a .rest) (globals-from n (i + 1))
+    where
+      P : List Global → Type 0
+      P gs = Chain (loadsEnd f h) (c .end) gs × (length gs ≤ suc n)
+
+      go : (r : Read) → c .end % 16 ≡ 0 → Next (c .end) r
+          → onGlobal r (λ g next. cond (inMemory f h false (g .start) (granule * g .granules))
+          (andThen (globalsFrom f h s n (i + 1) next) (λ gs. good (g ∷ gs))) (bad (refusal 9 i))) ≡ good gs
+          → ((next : Cursor) (gs : List Global) → globalsFrom f h s n (i + 1) next ≡ good gs → Chain (loadsEnd f h) (next .end) gs × (length gs ≤ n))
+          → P gs
+      go finished z x q again = good-same P [] gs q (tt, omega arith)
+      go (global g next) z x q again =
+          let t = cond-held _ (inMemory f h false (g .start) (granule * g .granules)) _ q in
+          let u = andThen-good (globalsFrom f h s n (i + 1) next) _ (t .1) in
+          let v = again next (u .value) (u .here) in
+          let w = in-memory f h passed false (g .start) (granule * g .granules) (t .0) in
+          good-same P (g ∷ u .value) gs (u .rest) (
+            record {
+              starts = x .starts;
+              aligned = omega arith;
+              filled = x .filled;
+              inside = w;
+              rest = subst (λ (z : ℕ). Chain (loadsEnd f h) z (u .value)) (x .ends) (v .0);
+            },
+            omega arith,
+          )
+
+-- ---- of any two globals in a chain
+
+-- a global in its place
+pub record Placed (limit end : ℕ) (g : Global) : Type 0 where
+  pub starts : end ≤ g .start
+  pub aligned : g .start % 16 ≡ 0
+  pub filled : 1 ≤ g .granules
+  pub inside : endOf g ≤ limit
+
+pub chain-at : (limit end : ℕ) (gs : List Global) → Chain limit end gs → (j : ℕ) → j < length gs → Placed limit end (globalAt gs j)
+chain-at limit end [] c j l = absurd (omega arith)
+chain-at limit end (g ∷ gs) c zero l = record { starts = c .starts; aligned = c .aligned; filled = c .filled; inside = c .inside }
+chain-at limit end (g ∷ gs) c (suc j) l =
+    let p = chain-at limit (endOf g) gs (c .rest) j (omega arith) in
+    let s = c .starts in
+    record { starts = omega arith; aligned = p .aligned; filled = p .filled; inside = p .inside }
+
+pub chain-rise : (limit end : ℕ) (gs : List Global) → Chain limit end gs → (i j : ℕ) → i < j → j < length gs
+    → endOf (globalAt gs i) ≤ globalAt gs j .start
+chain-rise limit end [] c i j h l = absurd (omega arith)
+chain-rise limit end (g ∷ gs) c i zero h l = absurd (omega arith)
+chain-rise limit end (g ∷ gs) c zero (suc j) h l = chain-at limit (endOf g) gs (c .rest) j (omega arith) .starts
+chain-rise limit end (g ∷ gs) c (suc i) (suc j) h l = chain-rise limit (endOf g) gs (c .rest) i j (omega arith) (omega arith)
+
+-- what the globals of a module are: in rising order, whole granules, by a limit
+pub record Rising (gs : List Global) (limit : ℕ) : Type 0 where
+  pub each : (j : ℕ) → j < length gs → Placed limit 0 (globalAt gs j)
+  pub rise : (i j : ℕ) → i < j → j < length gs → endOf (globalAt gs i) ≤ globalAt gs j .start
+
+pub globals-rising : (f : List ℕ) (h : Headers) (t : Descriptors) (gs : List Global) → loadsCheck f h ≡ good tt → globalsOf f h t ≡ good gs
+    → Rising gs (loadsEnd f h)
+unfolding globalsOf
+globals-rising f h t gs passed e =
+    let c = globals-from f h (descriptorTable f t) passed globalLimit 0 tableStart gs e in
+    record { each = chain-at (loadsEnd f h) 0 gs (c .0); rise = chain-rise (loadsEnd f h) 0 gs (c .0) }
+
+pub globals-count : (f : List ℕ) (h : Headers) (t : Descriptors) (gs : List Global) → loadsCheck f h ≡ good tt → globalsOf f h t ≡ good gs
+    → length gs ≤ globalLimit
+unfolding globalsOf
+globals-count f h t gs passed e = globals-from f h (descriptorTable f t) passed globalLimit 0 tableStart gs e .1

@@ -1,0 +1,6 @@
+pub mod Checks
+pub mod KnownTags
+pub mod Loads
+pub mod Writes
+pub mod Globals
+pub mod Places
