@@ -7,7 +7,7 @@ use mathlib.Core.List.{List, [], _∷_}
 use native.Mathlib.Omega.{arith}
 use lib.ListN.{length}
 use lib.Dec.{leb, ltb, eqb}
-use borrow.Author.Tests.{eqb-true, eqb-false}
+use borrow.Author.Tests.{eqb-true, eqb-false, leb-true}
 use Rattle.rules.specs.Outcome.{good, bad, andThen, refusal}
 use Rattle.rules.specs.Limits.{granule, globalLimit, addressLimit}
 use Rattle.rules.specs.Segments.{loadsCheck, inMemory}
@@ -27,6 +27,7 @@ pub record Follows (end : ℕ) (g : Global) (c : Cursor) : Type 0 where
   pub aligned : g .start % 16 ≡ end % 16
   pub filled : 1 ≤ g .granules
   pub ends : c .end ≡ endOf g
+  pub limited : endOf g ≤ addressLimit
 
 -- of what a step found
 abbrev pub Next : ℕ → Read → Type 0
@@ -37,7 +38,7 @@ placed-next : (index end distance granules next : ℕ) (r : Read) → 1 ≤ gran
 unfolding placed
 placed-next index end distance granules next r l h =
     let q = cond-held _ (leb (end + granule * distance + granule * granules) addressLimit) _ h in
-    good-same (λ r. Next end r) _ r (q .1) (record { starts = omega arith; aligned = omega arith; filled = l; ends = refl })
+    good-same (λ r. Next end r) _ r (q .1) (record { starts = omega arith; aligned = omega arith; filled = l; ends = refl; limited = leb-true (end + granule * distance + granule * granules) addressLimit (q .0) })
 
 second-next : (index end distance : ℕ) (u : Uleb) (r : Read) → second index end distance u ≡ good r → Next end r
 unfolding second
@@ -55,7 +56,7 @@ descriptor-next index s end (number v next) r h = go (eqb (v % 8) 0) refl h
         placed-next index end (v / 8) (v % 8) next r (omega arith) h
 descriptor-next index s end malformed r h = absurd (let z : _≡_ {A = ℕ} 0 1 = cc in omega arith)
 
-step-next : (index : ℕ) (s : List ℕ) (c : Cursor) (r : Read) → stepAt index s c ≡ good r → (c .end % 16 ≡ 0) × Next (c .end) r
+pub step-next : (index : ℕ) (s : List ℕ) (c : Cursor) (r : Read) → stepAt index s c ≡ good r → (c .end % 16 ≡ 0) × Next (c .end) r
 unfolding stepAt
 step-next index s c r h =
     let a = cond-held _ (leb (c .position) (length s)) _ h in
