@@ -15,6 +15,7 @@ use rules::ModuleAnswer;
 use rules::Refusal;
 use rules::RelocationsAnswer;
 
+// The answer of an arm that is never taken.
 const NEVER: Refusal = Refusal {
     number: 0,
     position: 0,
