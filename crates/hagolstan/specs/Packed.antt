@@ -1,0 +1,41 @@
+-- What the exported calls answer: one 64-bit number.
+-- Assumes nothing.
+use Prim.Native.Nat.{ℕ, _+_, _*_, _^_}
+use Rattle.rules.specs.Outcome.{Outcome, good, bad}
+use Rattle.rules.specs.declared.Refusal.{Refusal}
+use Rattle.rules.specs.declared.Facts.{Facts}
+use Rattle.rules.specs.declared.Mode.{Mode}
+use Rattle.rules.specs.declared.Mode.the-variants as mode
+use Rattle.rules.specs.declared.Switch.{Switch}
+use Rattle.rules.specs.declared.Switch.the-variants as switch
+
+-- position × 256 + refusal number
+abbrev pub packedRefusal : Refusal → ℕ
+packedRefusal r = r .position * 256 + r .number
+
+-- or globals × 256
+abbrev pub packed : Outcome Facts → ℕ
+packed (good a) = a .globals * 256
+packed (bad r) = packedRefusal r
+
+-- the mode: 0 absent, 1 synchronous, 2 asynchronous
+abbrev pub modeNumber : Mode → ℕ
+modeNumber mode.Absent = 0
+modeNumber mode.Synchronous = 1
+modeNumber mode.Asynchronous = 2
+
+-- heap and stack: 0 absent, 1 off, 2 on
+abbrev pub switchNumber : Switch → ℕ
+switchNumber switch.Absent = 0
+switchNumber switch.Off = 1
+switchNumber switch.On = 2
+
+-- all facts in one number, which is odd; 0 where the file is refused
+abbrev pub factsNumber : Facts → ℕ
+factsNumber a =
+    1 + 4 * modeNumber (a .mode) + 16 * switchNumber (a .heap) + 64 * switchNumber (a .stack)
+    + 65536 * a .globals + 4294967296 * a .words
+
+abbrev pub packedFacts : Outcome Facts → ℕ
+packedFacts (good a) = factsNumber a
+packedFacts (bad r) = 0

@@ -1,0 +1,79 @@
+// The calls that a C host makes.
+ghost use mathlib.Core.Path.{_≡_};
+ghost use Prim.Native.Nat.{_≤_};
+ghost use Rattle.rules.specs.Examine.{examinedOf};
+ghost use Rattle.hagolstan.specs.Packed.{packedRefusal, packed, modeNumber, switchNumber, factsNumber, packedFacts};
+use rules::Answer;
+use rules::Facts;
+use rules::Mode;
+use rules::Refusal;
+use rules::Switch;
+
+// A refusal as one number.
+fn pack_refusal(r: Refusal) -> u64
+    requires { ⌜ r .position ≤ 1024 ⌝ }
+    ensures { λ v. ⌜ v ≡ packedRefusal r ⌝ }
+{
+    r.position * 256 + r.number as u64
+}
+
+fn mode_number(m: Mode) -> u64
+    ensures { λ v. ⌜ (v ≡ modeNumber m) × (v ≤ 2) ⌝ }
+{
+    match m {
+        Mode::Absent => 0,
+        Mode::Synchronous => 1,
+        Mode::Asynchronous => 2,
+    }
+}
+
+fn switch_number(s: Switch) -> u64
+    ensures { λ v. ⌜ (v ≡ switchNumber s) × (v ≤ 2) ⌝ }
+{
+    match s {
+        Switch::Absent => 0,
+        Switch::Off => 1,
+        Switch::On => 2,
+    }
+}
+
+fn facts_number(a: Facts) -> u64
+    ensures { λ v. ⌜ v ≡ factsNumber a ⌝ }
+{
+    let mode = a.mode;
+    let heap = a.heap;
+    let stack = a.stack;
+    1
+        + 4 * mode_number(mode)
+        + 16 * switch_number(heap)
+        + 64 * switch_number(stack)
+        + 65536 * (a.globals as u64)
+        + 4294967296 * (a.words as u64)
+}
+
+// Examines a file: position × 256 + refusal number, or globals × 256.
+#[no_mangle]
+pub extern "C" fn hagolstan_examine(file: &[u8]) -> u64
+    ensures { λ v. ⌜ v ≡ packed (examinedOf (now (file .entry))) ⌝ }
+{
+    let answer = examine::examine_file(file);
+    let Answer::Taken(a) = answer else {
+        let Answer::Refused(r) = answer else {
+            return 0;
+        };
+        return pack_refusal(r);
+    };
+    (a.globals as u64) * 256
+}
+
+// The facts of a file in one number, or 0 where examine refuses it.
+#[no_mangle]
+pub extern "C" fn hagolstan_facts(file: &[u8]) -> u64
+    ensures { λ v. ⌜ v ≡ packedFacts (examinedOf (now (file .entry))) ⌝ }
+{
+    let answer = examine::examine_file(file);
+    let Answer::Taken(a) = answer else {
+        return 0;
+    };
+    facts_number(a)
+}
