@@ -1,0 +1,22 @@
+-- Examine's answer, packed; a refusal's position is at most 1,024.
+-- Assumes nothing.
+use Rattle.demands.proofs.Refusals.{examined-refusal}
+use Rattle.rules.specs.Examine.{examinedOf}
+use Rattle.rules.specs.Outcome.{bad}
+use mathlib.Core.Path.{_≡_}
+use borrow.Author.Needs.{needs}
+use Rattle.hagolstan.proofs.hagolstan_examine.Statement.{statement}
+use Rattle.hagolstan.proofs.hagolstan_examine.Tie as tie
+
+pack-refusal-requires : tie.Need-pack-refusal-requires
+pack-refusal-requires c κs = let r = c .before .answer3 .given .0 .0 in let e : examinedOf (c .before .before .before .before .before .before .before .before .args .file .now) ≡ bad r = rw (← c .before .before .before .before .before .before .examine-file .ensures, c .before .before .before .before .answer2 .given .1) (cc) in examined-refusal (c .before .before .before .before .before .before .before .before .args .file .now) r e .position-most
+
+returns-2 : tie.Need-returns-2
+returns-2 c = rw (← c .before .before .before .before .before .before .before .examine-file .ensures, c .before .before .before .before .before .answer2 .given .1) (cc)
+
+returns-3 : tie.Need-returns-3
+returns-3 c = rw (← c .before .before .before .before .examine-file .ensures, c .before .before .answer .given .1)
+
+pub hagolstan-examine-spec : {M : Type 1} → statement M
+hagolstan-examine-spec =
+    tie.close (tie.spec (search needs) (search needs) (search needs) (search needs) (search needs) (λ c. search needs) pack-refusal-requires returns-2 (search needs) (search needs) returns-3)
