@@ -1,14 +1,16 @@
 -- Globals that pass checks 8 and 9 are whole granules in rising order, inside the PT_LOADs.
 -- Assumes nothing.
-use Prim.Native.Nat.{ℕ, zero, suc, _+_, _*_, _/_, _%_, _≤_, _<_}
-use mathlib.Core.Path.{_≡_, refl, subst}
+use Prim.Native.Nat.{ℕ, zero, suc, _+_, _*_, _-_, _/_, _%_, _≤_, _<_}
+use mathlib.Core.Path.{_≡_, refl, sym, ap, _∙_, subst}
 use mathlib.Core.Bool.{Bool, true, false, cond}
 use mathlib.Core.List.{List, [], _∷_}
+use native.Mathlib.Numerals.{add-one, sub-one}
 use native.Mathlib.Omega.{arith}
-use lib.ListN.{length}
+use lib.ListN.{length, drop}
+use lib.Seq.{drop-cons}
 use lib.Dec.{leb, ltb, eqb}
 use borrow.Author.Tests.{eqb-true, eqb-false, leb-true}
-use Rattle.rules.specs.Outcome.{good, bad, andThen, refusal}
+use Rattle.rules.specs.Outcome.{Outcome, good, bad, andThen, refusal}
 use Rattle.rules.specs.Limits.{granule, globalLimit, addressLimit}
 use Rattle.rules.specs.Segments.{loadsCheck, inMemory}
 use Rattle.rules.specs.Descriptors.{Uleb, number, malformed, Read, finished, global, ulebAt, placed, second, descriptor, stepAt, onGlobal, globalsFrom, globalsOf, descriptorTable, tableStart}
@@ -159,3 +161,80 @@ pub globals-count : (f : List ℕ) (h : Headers) (t : Descriptors) (gs : List Gl
     → length gs ≤ globalLimit
 unfolding globalsOf
 globals-count f h t gs passed e = globals-from f h (descriptorTable f t) passed globalLimit 0 tableStart gs e .1
+
+-- ---- the walk again, once its globals are known
+
+-- one turn: the global read at a cursor, and the walk from the cursor after it
+pub record Turn (f : List ℕ) (h : Headers) (s : List ℕ) (n i : ℕ) (c : Cursor) (g : Global) (gs : List Global) : Type 0 where
+  pub next : Cursor
+  pub here : stepAt i s c ≡ good (global g next)
+  pub after : globalsFrom f h s (n - 1) (i + 1) next ≡ good gs
+
+pub globals-turn : (f : List ℕ) (h : Headers) (s : List ℕ) (n i : ℕ) (c : Cursor) (g : Global) (gs : List Global)
+    → globalsFrom f h s n i c ≡ good (g ∷ gs) → Turn f h s n i c g gs
+unfolding globalsFrom
+globals-turn f h s zero i c g gs e = go (ltb (c .position) (length s)) e
+  where
+    go : (b : Bool) → cond b (bad (refusal 9 i)) (good []) ≡ good (g ∷ gs) → Turn f h s zero i c g gs
+    go true q = absurd (let z : _≡_ {A = ℕ} 0 1 = cc in omega arith)
+    go false q = absurd (let z : _≡_ {A = ℕ} 0 1 = cc in omega arith)
+globals-turn f h s (suc n) i c g gs e =
+    let a = andThen-good (stepAt i s c) _ e in
+    go (a .value) (a .here) (a .rest)
+  where
+    go : (r : Read) → stepAt i s c ≡ good r
+        → onGlobal r (λ g next. cond (inMemory f h false (g .start) (granule * g .granules))
+        (andThen (globalsFrom f h s n (i + 1) next) (λ gs. good (g ∷ gs))) (bad (refusal 9 i))) ≡ good (g ∷ gs)
+        → Turn f h s (suc n) i c g gs
+    go finished x q = absurd (let z : _≡_ {A = ℕ} 0 1 = cc in omega arith)
+    go (global g₁ next) x q =
+        let t = cond-held _ (inMemory f h false (g₁ .start) (granule * g₁ .granules)) _ q in
+        let u = andThen-good (globalsFrom f h s n (i + 1) next) _ (t .1) in
+        let r = u .rest in
+        let e₁ : g₁ ≡ g = cc in
+        let e₂ : u .value ≡ gs = cc in
+        record {
+          next = next;
+          here = x ∙ ap (λ (z : Global). good (global z next)) e₁;
+          after = rw sub-one (u .here ∙ ap (λ (z : List Global). good z) e₂);
+        }
+
+-- the walk at the index i: the globals from i on are left to read, and the cursor holds the end of the one before
+pub record Walk (f : List ℕ) (h : Headers) (s : List ℕ) (gs : List Global) (i : ℕ) (c : Cursor) : Type 0 where
+  pub rest : globalsFrom f h s (globalLimit - i) i c ≡ good (drop i gs)
+  pub last : 0 < i → c .end ≡ endOf (globalAt gs (i - 1))
+
+-- what one step finds there
+pub record Stepped (f : List ℕ) (h : Headers) (s : List ℕ) (gs : List Global) (i : ℕ) (c : Cursor) : Type 0 where
+  pub next : Cursor
+  pub here : stepAt i s c ≡ good (global (globalAt gs i) next)
+  pub walk : Walk f h s gs (i + 1) next
+
+pub walk-start : (f : List ℕ) (h : Headers) (t : Descriptors) (gs : List Global) → globalsOf f h t ≡ good gs
+    → Walk f h (descriptorTable f t) gs 0 tableStart
+unfolding globalsOf
+walk-start f h t gs e = record { rest = e; last = λ z. absurd (omega arith) }
+
+pub walk-step : (f : List ℕ) (h : Headers) (s : List ℕ) (gs : List Global) (i : ℕ) (c : Cursor) → Walk f h s gs i c → i < length gs
+    → Stepped f h s gs i c
+walk-step f h s gs i c w l =
+    let d : drop i gs ≡ globalAt gs i ∷ drop (i + 1) gs = rw add-one (drop-cons gs i (record { start = 0; granules = 0 }) l) in
+    let t = globals-turn f h s (globalLimit - i) i c (globalAt gs i) (drop (i + 1) gs) (w .rest ∙ ap (λ (z : List Global). good z) d) in
+    let n : globalLimit - (i + 1) ≡ globalLimit - i - 1 = omega arith in
+    let k : i + 1 - 1 ≡ i = omega arith in
+    let x = step-next i s c (global (globalAt gs i) (t .next)) (t .here) .1 in
+    record {
+      next = t .next;
+      here = t .here;
+      walk = record { rest = rw n (t .after); last = λ z. rw k (x .ends) };
+    }
+
+-- a step that read a global read the one of the index
+pub walk-global : (f : List ℕ) (h : Headers) (s : List ℕ) (gs : List Global) (i : ℕ) (c : Cursor) (g : Global) (next : Cursor)
+    → Walk f h s gs i c → i < length gs → stepAt i s c ≡ good (global g next) → (g ≡ globalAt gs i) × Walk f h s gs (i + 1) next
+walk-global f h s gs i c g next w l e =
+    let t = walk-step f h s gs i c w l in
+    let r : _≡_ {A = Outcome Read} (good (global (globalAt gs i) (t .next))) (good (global g next)) = sym (t .here) ∙ e in
+    let e₁ : g ≡ globalAt gs i = cc in
+    let e₂ : t .next ≡ next = cc in
+    (e₁, subst (λ (z : Cursor). Walk f h s gs (i + 1) z) e₂ (t .walk))

@@ -1,0 +1,120 @@
+// Check 14, and the tag plane: each global's granules take its choice.
+ghost use mathlib.Core.Path.{_≡_};
+ghost use lib.ListN.{length};
+ghost use Rattle.rules.specs.Outcome.{good, refuse};
+ghost use Rattle.rules.specs.Descriptors.{globalsOf};
+ghost use Rattle.rules.specs.Load.{listOf, choicesCheck, planeOf};
+ghost use Rattle.rules.specs.Answers.{ofChecked, countOf};
+ghost use Rattle.tags.specs.Choice.{badAfter};
+use rules::Checked;
+use rules::Cursor;
+use rules::Descriptors;
+use rules::Headers;
+use rules::Refusal;
+use rules::Step;
+
+// The least and the greatest choice.
+const CHOICE_LEAST: u8 = 1;
+
+const CHOICE_LIMIT: u8 = 15;
+
+// The tag of a granule that no global has.
+const UNTAGGED: u8 = 0;
+
+// Bytes of a granule.
+const GRANULE: u64 = 16;
+
+// The refusal number of check 14.
+const BAD_CHOICE: u8 = 14;
+
+fn refused(position: u16) -> Checked
+    ensures { λ r. ⌜ ofChecked r ≡ refuse 14 position ⌝ }
+{
+    let r = Refusal {
+        number: BAD_CHOICE,
+        position: position as u64,
+    };
+    Checked::Refused(r)
+}
+
+// Check 14 of one choice, from the end of the global before and the choice before.
+fn is_bad_choice(i: u16, end: u64, last: u8, start: u64, choice: u8) -> bool
+    ensures { λ r. ⌜ r ≡ badAfter i end last start choice ⌝ }
+{
+    if choice < CHOICE_LEAST {
+        return true;
+    }
+    if CHOICE_LIMIT < choice {
+        return true;
+    }
+    if i == 0 {
+        return false;
+    }
+    if end != start {
+        return false;
+    }
+    last == choice
+}
+
+// Check 14: as many choices as globals, and each of them good.
+pub fn check_choices(f: &[u8], h: Headers, t: Descriptors, globals: u16, choices: &[u8]) -> Checked
+    requires { ⌜ countOf (globalsOf (now f) h t) ≡ good globals ⌝ }
+    ensures { λ r. ⌜ ofChecked r ≡ choicesCheck (listOf (globalsOf (now (f .entry)) h t)) (now (choices .entry)) ⌝ }
+{
+    if choices.len() != globals as usize {
+        return refused(globals);
+    }
+    let table = reads::part_of(f, t.at as usize, t.bytes as usize);
+    let mut cursor = Cursor {
+        position: 0,
+        end: 0,
+    };
+    let mut last: u8 = 0;
+    for i in 0..globals {
+        let st = cursor.step(table, i as u64);
+        let Step::Global(g, next) = st else {
+            return Checked::Passed;
+        };
+        let choice = reads::byte_at(choices, i as usize);
+        if is_bad_choice(i, cursor.end, last, g.start, choice) {
+            return refused(i);
+        }
+        cursor = next;
+        last = choice;
+    }
+    Checked::Passed
+}
+
+// The plane of the choices: 0 but for the granules of the globals.
+pub fn tag_globals(
+    f: &[u8],
+    h: Headers,
+    t: Descriptors,
+    globals: u16,
+    choices: &[u8],
+    plane: &mut [u8],
+)
+    requires { ⌜ countOf (globalsOf (now f) h t) ≡ good globals ⌝ }
+    ensures { λ _. ⌜ now (plane .exit) ≡ planeOf (listOf (globalsOf (now (f .entry)) h t)) (now (choices .entry)) (length (now (plane .entry))) ⌝ }
+{
+    memory::fill(plane, UNTAGGED);
+    let table = reads::part_of(f, t.at as usize, t.bytes as usize);
+    let mut cursor = Cursor {
+        position: 0,
+        end: 0,
+    };
+    for i in 0..globals {
+        let st = cursor.step(table, i as u64);
+        let Step::Global(g, next) = st else {
+            return;
+        };
+        let choice = reads::byte_at(choices, i as usize);
+        memory::fill_at(
+            plane,
+            (g.start / GRANULE) as usize,
+            g.granules as usize,
+            choice,
+        );
+        cursor = next;
+    }
+}
