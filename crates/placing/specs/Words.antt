@@ -1,0 +1,18 @@
+-- The word of one entry, by the symbol table's entry.
+-- Assumes nothing.
+use Prim.Native.Nat.{ℕ, _+_, _*_, _^_}
+use mathlib.Core.List.{List}
+use lib.ListN.{length}
+use Rattle.rules.specs.Bytes.{le}
+use Rattle.rules.specs.Relocations.{placeAt, addendAt, targetIn}
+use Rattle.rules.specs.Load.{natural, sourceTag}
+use Rattle.rules.specs.declared.Headers.{Headers}
+use Rattle.rules.specs.declared.Entry.{Entry}
+use Rattle.rules.specs.declared.Relocations.{Relocations}
+use Rattle.placing.specs.Addresses.{addressIn}
+
+-- the word of the entry of index i: its address, and its tag in bits 56 to 59
+unfoldable pub wordIn : List ℕ → Headers → Entry → Relocations → ℕ → List ℕ → List ℕ → ℕ → ℕ
+wordIn f h symbols r bias image plane i =
+    natural (addressIn f h symbols r bias i)
+    + 2 ^ 56 * sourceTag plane bias (length image) (targetIn f h symbols r i) (addendAt f r i) (le 8 image (placeAt f r i))
