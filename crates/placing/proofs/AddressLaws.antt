@@ -49,3 +49,8 @@ at-small (negsuc x) a e = absurd (let z : _≡_ {A = ℕ} 0 1 = cc in omega arit
 pub outside-out : (z : ℤ) → inRange z ≡ Outside → outOfRange z ≡ true
 outside-out (pos x) e = le-leb addressLimit x (ltb-false x addressLimit (outside-test (ltb x addressLimit) x e))
 outside-out (negsuc x) e = refl
+
+-- a test does not come out both ways
+pub not-both : (b : Bool) → b ≡ true → b ≡ false → ⊥
+not-both true t f = let z : _≡_ {A = ℕ} 0 1 = cc in omega arith
+not-both false t f = let z : _≡_ {A = ℕ} 0 1 = cc in omega arith

@@ -1,12 +1,17 @@
 // Checks 12 and 13, and the writes to memory: segments placed, words relocated.
 ghost use mathlib.Core.Path.{_≡_};
-ghost use mathlib.Core.Bool.{_&&_};
+ghost use mathlib.Core.Bool.{false, _&&_};
+ghost use Prim.Native.Nat.{_+_, _*_, _^_, _<_};
 ghost use lib.ListN.{length};
-ghost use Rattle.rules.specs.Outcome.{require};
+ghost use Rattle.rules.specs.Outcome.{good, require};
 ghost use Rattle.rules.specs.First.{faultless};
-ghost use Rattle.rules.specs.Load.{memoryFits, planeFits, loadsEnd, putLoad, imageOf};
+ghost use Rattle.rules.specs.Bytes.{le};
+ghost use Rattle.rules.specs.Memory.{putWord};
+ghost use Rattle.rules.specs.Load.{memoryFits, planeFits, loadsEnd, putLoad, imageOf, sourceTag, writes};
 ghost use Rattle.rules.specs.Answers.{ofChecked};
+ghost use Rattle.laws.proofs.Writes.{Apart};
 ghost use Rattle.placing.specs.Addresses.{badAddressIn};
+ghost use Rattle.placing.specs.Words.{wordIn, written};
 use rules::Address;
 use rules::Checked;
 use rules::Entry;
@@ -14,6 +19,7 @@ use rules::Headers;
 use rules::Refusal;
 use rules::Relocations;
 use rules::Segment;
+use rules::Target;
 
 const MEMORY_LIMIT: u64 = 1048576;
 
@@ -22,6 +28,9 @@ const ADDRESS_LIMIT: u64 = 281474976710656;
 const PAGE: u64 = 4096;
 
 const GRANULE: u64 = 16;
+
+// A tag stands in bits 56 to 59 of a word.
+const TAG_UNIT: u64 = 72057594037927936;
 
 // Check 12, of the memory and the bias.
 fn memory_fits(f: &[u8], h: Headers, memory: u64, bias: u64) -> bool
@@ -122,5 +131,73 @@ pub fn place_segments(f: &[u8], h: Headers, mem: &mut [u8])
     for i in 0..count {
         let s = headers::header_at(f, h, i);
         place_segment(f, s, mem);
+    }
+}
+
+// A word is written at a place: its address, and the tag of its source over what the place holds.
+fn write_word(
+    plane: &[u8],
+    bias: u64,
+    t: Target,
+    addend: u64,
+    address: u64,
+    place: usize,
+    mem: &mut [u8],
+)
+    requires { ⌜ address < 2 ^ 48 ⌝ }
+    ensures { λ _. ⌜ now (mem .exit) ≡ putWord (now (mem .entry)) place (address + 2 ^ 56 * sourceTag (now (plane .entry)) bias (length (now (mem .entry))) t addend (le 8 (now (mem .entry)) place)) ⌝ }
+{
+    let loaded = reads::read64(mem, place);
+    let tag = words::source_tag(plane, bias, mem.len() as u64, t, addend, loaded);
+    memory::put64(mem, place, address + TAG_UNIT * (tag as u64));
+}
+
+// One entry's word, unless the entry is skipped.
+fn relocate_entry(
+    f: &[u8],
+    h: Headers,
+    symbols: Entry,
+    r: Relocations,
+    bias: u64,
+    plane: &[u8],
+    i: u16,
+    mem: &mut [u8],
+)
+    requires { ⌜ badAddressIn (now f) h symbols r bias i ≡ false ⌝ }
+    ensures { λ _. ⌜ now (mem .exit) ≡ written (now (f .entry)) h symbols r bias (now (plane .entry)) (now (mem .entry)) i ⌝ }
+{
+    let kind = relocations::kind_at(f, r, i);
+    if kind == 0 {
+        return;
+    }
+    let symbol = relocations::symbol_at(f, r, i);
+    let t = relocations::find_target(f, h, symbols, kind, symbol);
+    let addend = relocations::addend_at(f, r, i);
+    let a = words::address_of(bias, t, addend);
+    // Never otherwise, by check 13.
+    let Address::At(address) = a else {
+        return;
+    };
+    let place = relocations::place_at(f, r, i);
+    write_word(plane, bias, t, addend, address, place as usize, mem);
+}
+
+// The words of the entries not skipped, in table order. A place is read before its own write, so it holds what was loaded.
+pub fn relocate(
+    f: &[u8],
+    h: Headers,
+    symbols: Entry,
+    r: Relocations,
+    bias: u64,
+    plane: &[u8],
+    mem: &mut [u8],
+)
+    requires { ⌜ Apart (now f) r (length (now mem)) (r .entries) ⌝ }
+    requires { ⌜ faultless 13 (badAddressIn (now f) h symbols r bias) (r .entries) ≡ good tt ⌝ }
+    ensures { λ _. ⌜ now (mem .exit) ≡ writes (now (f .entry)) r (wordIn (now (f .entry)) h symbols r bias (now (mem .entry)) (now (plane .entry))) (now (mem .entry)) (r .entries) ⌝ }
+{
+    let n = r.entries;
+    for i in 0..n {
+        relocate_entry(f, h, symbols, r, bias, plane, i, mem);
     }
 }
