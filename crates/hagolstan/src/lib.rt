@@ -2,6 +2,9 @@
 ghost use mathlib.Core.Path.{_≡_};
 ghost use Prim.Native.Nat.{_≤_};
 ghost use Rattle.rules.specs.Examine.{examinedOf};
+ghost use lib.ListN.{length};
+ghost use Rattle.rules.specs.Load.{loadOf, memoryAfter, planeAfter};
+ghost use Rattle.load.specs.Stages.{factsAfter};
 ghost use Rattle.hagolstan.specs.Packed.{packedRefusal, packed, modeNumber, switchNumber, factsNumber, packedFacts};
 use rules::Answer;
 use rules::Facts;
@@ -76,4 +79,27 @@ pub extern "C" fn hagolstan_facts(file: &[u8]) -> u64
         return 0;
     };
     facts_number(a)
+}
+
+// Loads a module: position × 256 + refusal number, with memory and plane as lent, or globals × 256.
+#[no_mangle]
+pub extern "C" fn hagolstan_load(
+    file: &[u8],
+    bias: u64,
+    memory: &mut [u8],
+    plane: &mut [u8],
+    choices: &[u8],
+) -> u64
+    ensures answered { λ v. ⌜ v ≡ packed (factsAfter (loadOf (now (file .entry)) bias (length (now (memory .entry))) (length (now (plane .entry))) (now (choices .entry)))) ⌝ }
+    ensures placed { λ _. ⌜ now (memory .exit) ≡ memoryAfter (loadOf (now (file .entry)) bias (length (now (memory .entry))) (length (now (plane .entry))) (now (choices .entry))) (now (memory .entry)) ⌝ }
+    ensures tagged { λ _. ⌜ now (plane .exit) ≡ planeAfter (loadOf (now (file .entry)) bias (length (now (memory .entry))) (length (now (plane .entry))) (now (choices .entry))) (now (plane .entry)) ⌝ }
+{
+    let answer = load::load_module(file, bias, memory, plane, choices);
+    let Answer::Taken(a) = answer else {
+        let Answer::Refused(r) = answer else {
+            return 0;
+        };
+        return pack_refusal(r);
+    };
+    (a.globals as u64) * 256
 }

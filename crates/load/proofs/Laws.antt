@@ -1,0 +1,92 @@
+-- The load by its stages: reading, checks 10 to 14, and what is left.
+-- Assumes nothing.
+use Prim.Native.Nat.{ℕ}
+use mathlib.Core.Path.{_≡_, refl, sym, ap, _∙_}
+use mathlib.Core.Bool.{Bool, true, _&&_}
+use mathlib.Core.List.{List}
+use lib.ListN.{length}
+use Rattle.rules.specs.Outcome.{Outcome, good, bad, andThen, require}
+use Rattle.rules.specs.Relocations.{relocationsCheck}
+use Rattle.rules.specs.Descriptors.{globalsOf}
+use Rattle.rules.specs.Examine.{moduleOf}
+use Rattle.rules.specs.First.{faultless}
+use Rattle.rules.specs.Dynamic.{entryOf}
+use Rattle.rules.specs.Load.{loaded, loadedMemory, loadedPlane, imageOf, writes, loadOf, memoryFits, planeFits, loadsEnd, addressesCheck, globalsIn, choicesCheck}
+use Rattle.rules.specs.Answers.{countOf}
+use Rattle.rules.specs.declared.Refusal.{Refusal}
+use Rattle.rules.specs.declared.Module.{Module}
+use Rattle.rules.specs.declared.Entry.{Entry}
+use Rattle.rules.proofs.OutcomeLaws.{and-left, and-right, andThen-good, require-held}
+use Rattle.demands.specs.Demands.{Passes}
+use Rattle.demands.proofs.Reading.{module-reads}
+use Rattle.demands.proofs.Standing.{passes-stands}
+use Rattle.laws.proofs.Writes.{Apart}
+use Rattle.placing.specs.Addresses.{badAddressIn}
+use Rattle.placing.specs.Words.{wordIn}
+use Rattle.placing.proofs.AddressLaws.{addresses-in}
+use Rattle.load.specs.Stages.{checksIn}
+
+-- four checks and what comes after them, grouped either way
+checks-then : {C : Type 0} (a b c d : Outcome (Unit {0})) (x : Outcome C)
+    → andThen a (λ _. andThen b (λ _. andThen c (λ _. andThen d (λ _. x)))) ≡ andThen (andThen a (λ _. andThen b (λ _. andThen c (λ _. d)))) (λ _. x)
+checks-then (good u) (good v) (good w) d x = refl
+checks-then (good u) (good v) (bad r) d x = refl
+checks-then (good u) (bad r) c d x = refl
+checks-then (bad r) b c d x = refl
+
+module _ (f : List ℕ) (bias n p : ℕ) (choices : List ℕ) where
+  pub load-unread : (r : Refusal) → moduleOf f ≡ bad r → loadOf f bias n p choices ≡ bad r
+  unfolding loadOf
+  load-unread r e = rw e
+
+  load-staged : (m : Module) → moduleOf f ≡ good m
+      → loadOf f bias n p choices ≡ andThen (checksIn f m bias n p choices) (λ _. good (loaded f m bias n p choices))
+  unfolding loadOf checksIn
+  load-staged m e =
+      rw e (checks-then (relocationsCheck f (m .headers) (m .dynamic) (m .relocations))
+      (require (memoryFits (loadsEnd f (m .headers)) n bias && planeFits n p) 12 0)
+      (addressesCheck f (m .headers) (m .dynamic) (m .relocations) bias) (choicesCheck (globalsIn f m) choices) (good (loaded f m bias n p choices)))
+
+  pub load-refused : (m : Module) (r : Refusal) → moduleOf f ≡ good m → checksIn f m bias n p choices ≡ bad r → loadOf f bias n p choices ≡ bad r
+  load-refused m r e c = load-staged m e ∙ rw c
+
+  pub load-taken : (m : Module) → moduleOf f ≡ good m → checksIn f m bias n p choices ≡ good tt → loadOf f bias n p choices ≡ good (loaded f m bias n p choices)
+  load-taken m e c = load-staged m e ∙ rw c
+
+  pub checks-pass : (m : Module) → moduleOf f ≡ good m → checksIn f m bias n p choices ≡ good tt → Passes f bias n p choices m
+  unfolding checksIn
+  checks-pass m e c =
+      let a = andThen-good (relocationsCheck f (m .headers) (m .dynamic) (m .relocations)) _ c in
+      let b = andThen-good (require (memoryFits (loadsEnd f (m .headers)) n bias && planeFits n p) 12 0) _ (a .rest) in
+      let d = andThen-good (addressesCheck f (m .headers) (m .dynamic) (m .relocations) bias) _ (b .rest) in
+      let t = require-held (memoryFits (loadsEnd f (m .headers)) n bias && planeFits n p) 12 0 (b .here) in
+      record {
+        reads = e;
+        relocates = a .here;
+        memory-fits = and-left (memoryFits (loadsEnd f (m .headers)) n bias) _ t;
+        plane-fits = and-right (memoryFits (loadsEnd f (m .headers)) n bias) _ t;
+        addresses = d .here;
+        chosen = d .rest;
+      }
+
+-- a module's globals are counted
+pub module-count : (f : List ℕ) (m : Module) → moduleOf f ≡ good m → countOf (globalsOf f (m .headers) (m .descriptors)) ≡ good (m .globals)
+module-count f m e = let r = module-reads f m e in rw (r .globals, r .count)
+
+-- memory after the writes, from what each of them left
+pub memory-left : (f : List ℕ) (m : Module) (bias n p : ℕ) (choices : List ℕ) (symbols : Entry) (placed tagged after : List ℕ)
+    → symbols ≡ entryOf f (m .dynamic) 6 → placed ≡ imageOf f (m .headers) n → tagged ≡ loadedPlane f m choices p
+    → after ≡ writes f (m .relocations) (wordIn f (m .headers) symbols (m .relocations) bias placed tagged) placed (m .relocations .entries)
+    → after ≡ loadedMemory f m bias (imageOf f (m .headers) n) (loadedPlane f m choices p)
+unfolding wordIn
+memory-left f m bias n p choices symbols placed tagged after s a b e = e ∙ rw (s, a, b)
+
+-- the places of a module that passes are apart in the placed memory, and its addresses in range
+pub places-stand : (f : List ℕ) (m : Module) (bias n p : ℕ) (choices : List ℕ) (placed : List ℕ) → placed ≡ imageOf f (m .headers) n
+    → Passes f bias n p choices m → Apart f (m .relocations) (length placed) (m .relocations .entries)
+places-stand f m bias n p choices placed e c = rw e (passes-stands f bias n p choices m c .apart)
+
+pub addresses-stand : (f : List ℕ) (m : Module) (bias n p : ℕ) (choices : List ℕ) (symbols : Entry) → symbols ≡ entryOf f (m .dynamic) 6
+    → Passes f bias n p choices m → faultless 13 (badAddressIn f (m .headers) symbols (m .relocations) bias) (m .relocations .entries) ≡ good tt
+addresses-stand f m bias n p choices symbols e c =
+    rw e (sym (addresses-in f (m .headers) (m .dynamic) (m .relocations) bias) ∙ c .addresses)
