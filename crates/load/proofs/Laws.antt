@@ -4,6 +4,7 @@ use Prim.Native.Nat.{ℕ}
 use mathlib.Core.Path.{_≡_, refl, sym, ap, _∙_}
 use mathlib.Core.Bool.{Bool, true, _&&_}
 use mathlib.Core.List.{List}
+use native.Mathlib.Omega.{arith}
 use lib.ListN.{length}
 use Rattle.rules.specs.Outcome.{Outcome, good, bad, andThen, require}
 use Rattle.rules.specs.Relocations.{relocationsCheck}
@@ -11,7 +12,7 @@ use Rattle.rules.specs.Descriptors.{globalsOf}
 use Rattle.rules.specs.Examine.{moduleOf}
 use Rattle.rules.specs.First.{faultless}
 use Rattle.rules.specs.Dynamic.{entryOf}
-use Rattle.rules.specs.Load.{loaded, loadedMemory, loadedPlane, imageOf, writes, loadOf, memoryFits, planeFits, loadsEnd, addressesCheck, globalsIn, choicesCheck}
+use Rattle.rules.specs.Load.{Loaded, loaded, loadedMemory, loadedPlane, imageOf, writes, loadOf, memoryFits, planeFits, loadsEnd, addressesCheck, globalsIn, choicesCheck}
 use Rattle.rules.specs.Answers.{countOf}
 use Rattle.rules.specs.declared.Refusal.{Refusal}
 use Rattle.rules.specs.declared.Module.{Module}
@@ -24,7 +25,7 @@ use Rattle.laws.proofs.Writes.{Apart}
 use Rattle.placing.specs.Addresses.{badAddressIn}
 use Rattle.placing.specs.Words.{wordIn}
 use Rattle.placing.proofs.AddressLaws.{addresses-in}
-use Rattle.load.specs.Stages.{checksIn}
+use Rattle.load.specs.Stages.{checksIn, factsAfter}
 
 -- four checks and what comes after them, grouped either way
 checks-then : {C : Type 0} (a b c d : Outcome (Unit {0})) (x : Outcome C)
@@ -90,3 +91,8 @@ pub addresses-stand : (f : List ℕ) (m : Module) (bias n p : ℕ) (choices : Li
     → Passes f bias n p choices m → faultless 13 (badAddressIn f (m .headers) symbols (m .relocations) bias) (m .relocations .entries) ≡ good tt
 addresses-stand f m bias n p choices symbols e c =
     rw e (sym (addresses-in f (m .headers) (m .dynamic) (m .relocations) bias) ∙ c .addresses)
+
+-- facts that are refused come from a load that is
+pub facts-refused : (o : Outcome Loaded) (r : Refusal) → factsAfter o ≡ bad r → o ≡ bad r
+facts-refused (good l) r e = absurd (let z : _≡_ {A = ℕ} 0 1 = cc in omega arith)
+facts-refused (bad q) r e = cc
