@@ -1,7 +1,10 @@
 // Check 14, and the tag plane: each global's granules take its choice.
 ghost use mathlib.Core.Path.{_≡_};
-ghost use lib.ListN.{length};
+ghost use Prim.Native.Nat.{_/_};
+ghost use lib.ListN.{length, getD, replicate};
 ghost use Rattle.rules.specs.Outcome.{good, refuse};
+ghost use Rattle.rules.specs.Limits.{granule};
+ghost use Rattle.rules.specs.Memory.{put};
 ghost use Rattle.rules.specs.Descriptors.{globalsOf};
 ghost use Rattle.rules.specs.Load.{listOf, choicesCheck, planeOf};
 ghost use Rattle.rules.specs.Answers.{ofChecked, countOf};
@@ -9,6 +12,7 @@ ghost use Rattle.tags.specs.Choice.{badAfter};
 use rules::Checked;
 use rules::Cursor;
 use rules::Descriptors;
+use rules::Global;
 use rules::Headers;
 use rules::Refusal;
 use rules::Step;
@@ -35,6 +39,13 @@ fn refused(position: u16) -> Checked
         position: position as u64,
     };
     Checked::Refused(r)
+}
+
+// A choice by its index.
+fn choice_at(choices: &[u8], i: u16) -> u8
+    ensures { λ r. ⌜ r ≡ getD (now (choices .entry)) i 0 ⌝ }
+{
+    reads::byte_at(choices, i as usize)
 }
 
 // Check 14 of one choice, from the end of the global before and the choice before.
@@ -75,7 +86,7 @@ pub fn check_choices(f: &[u8], h: Headers, t: Descriptors, globals: u16, choices
         let Step::Global(g, next) = st else {
             return Checked::Passed;
         };
-        let choice = reads::byte_at(choices, i as usize);
+        let choice = choice_at(choices, i);
         if is_bad_choice(i, cursor.end, last, g.start, choice) {
             return refused(i);
         }
@@ -83,6 +94,18 @@ pub fn check_choices(f: &[u8], h: Headers, t: Descriptors, globals: u16, choices
         last = choice;
     }
     Checked::Passed
+}
+
+// The granules of one global take a tag.
+fn tag_global(plane: &mut [u8], g: Global, tag: u8)
+    ensures { λ _. ⌜ now (plane .exit) ≡ put (now (plane .entry)) (g .start / granule) (replicate (g .granules) tag) ⌝ }
+{
+    memory::fill_at(
+        plane,
+        (g.start / GRANULE) as usize,
+        g.granules as usize,
+        tag,
+    );
 }
 
 // The plane of the choices: 0 but for the granules of the globals.
@@ -108,13 +131,8 @@ pub fn tag_globals(
         let Step::Global(g, next) = st else {
             return;
         };
-        let choice = reads::byte_at(choices, i as usize);
-        memory::fill_at(
-            plane,
-            (g.start / GRANULE) as usize,
-            g.granules as usize,
-            choice,
-        );
+        let tag = choice_at(choices, i);
+        tag_global(plane, g, tag);
         cursor = next;
     }
 }
