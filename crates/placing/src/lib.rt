@@ -173,9 +173,9 @@ fn relocate_entry(
     let symbol = relocations::symbol_at(f, r, i);
     let t = relocations::find_target(f, h, symbols, kind, symbol);
     let addend = relocations::addend_at(f, r, i);
-    let a = words::address_of(bias, t, addend);
+    let found = words::address_of(bias, t, addend);
     // Never otherwise, by check 13.
-    let Address::At(address) = a else {
+    let Address::At(address) = found else {
         return;
     };
     let place = relocations::place_at(f, r, i);
@@ -196,8 +196,8 @@ pub fn relocate(
     requires { ⌜ faultless 13 (badAddressIn (now f) h symbols r bias) (r .entries) ≡ good tt ⌝ }
     ensures { λ _. ⌜ now (mem .exit) ≡ writes (now (f .entry)) r (wordIn (now (f .entry)) h symbols r bias (now (mem .entry)) (now (plane .entry))) (now (mem .entry)) (r .entries) ⌝ }
 {
-    let n = r.entries;
-    for i in 0..n {
+    let entries = r.entries;
+    for i in 0..entries {
         relocate_entry(f, h, symbols, r, bias, plane, i, mem);
     }
 }

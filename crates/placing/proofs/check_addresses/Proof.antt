@@ -1,3 +1,5 @@
+-- The loop keeps that the first bad address is the first from here on.
+-- Assumes nothing.
 use native.Mathlib.Nat.{sub-zero}
 use Prim.Native.Nat.{_≤_, _-_}
 use mathlib.Core.Path.{_≡_, sym, _∙_}
@@ -8,9 +10,6 @@ use native.Mathlib.Omega.{arith}
 use borrow.Author.Needs.{needs}
 use Rattle.placing.proofs.check_addresses.Statement.{statement}
 use Rattle.placing.proofs.check_addresses.Tie as tie
-use Rattle.placing.proofs.check_addresses.Reads as reads
-use Rattle.placing.proofs.check_addresses.Lts as lts
-use Rattle.placing.proofs.is_bad_address.Reads as is-bad-address-reads
 
 abbrev Inv-loop : tie.InvT-loop
 Inv-loop f h symbols r bias n i₀ i = (i ≤ n) × (first (badAddressIn f h symbols r bias) 0 n ≡ first (badAddressIn f h symbols r bias) i (n - i))
@@ -18,49 +17,34 @@ Inv-loop f h symbols r bias n i₀ i = (i ≤ n) × (first (badAddressIn f h sym
 abbrev μ-loop : tie.MeasureT-loop
 μ-loop f h symbols r bias n i₀ i = n - i
 
--- src/lib.rt:96:5
 loop-holds : tie.Need-loop-holds Inv-loop μ-loop
 loop-holds c = (omega arith, rw sub-zero)
 
--- src/lib.rt:97:12
-is-bad-address-requires : tie.Need-is-bad-address-requires Inv-loop μ-loop
-is-bad-address-requires c κs = search needs
-
--- src/lib.rt:100:27
-cast-t10 : tie.Need-cast-t10 Inv-loop μ-loop
-cast-t10 c = search needs
-
--- src/lib.rt:98:13
 returns : tie.Need-returns Inv-loop μ-loop
-returns c = let l = c .before .before .before .loop in let a = c .before .before .before .before .before .args in let t = badAddressIn (a .f .now) (a .h) (a .symbols) (a .r) (a .bias) in sym (faultless-hit 13 t (a .r .entries) (l .i) (l .inv .1 ∙ first-hit t (l .i) (a .r .entries) (omega arith) (rw (← c .before .is-bad-address .ensures) (c .if1 .taken))) (omega arith))
+returns c =
+    let L = c .before .before .before in
+    let l = L .loop in
+    let a = L .before .before .args in
+    let t = badAddressIn (a .f .now) (a .h) (a .symbols) (a .r) (a .bias) in
+    sym (faultless-hit 13 t (a .r .entries) (l .i)
+    (l .inv .1 ∙ first-hit t (l .i) (a .r .entries) (omega arith) (rw (← c .before .is-bad-address .ensures) (c .if1 .taken)))
+    (omega arith))
 
--- src/lib.rt:96:9
-add-i : tie.Need-add-i Inv-loop μ-loop
-add-i c = search needs
-
--- src/lib.rt:96:5
-loop-less : tie.Need-loop-less Inv-loop μ-loop
-loop-less c = search needs
-
--- src/lib.rt:96:5
 loop-again : tie.Need-loop-again Inv-loop μ-loop
-loop-again c = let l = c .before .before .before .loop in let a = c .before .before .before .before .before .args in let t = badAddressIn (a .f .now) (a .h) (a .symbols) (a .r) (a .bias) in (omega arith, l .inv .1 ∙ first-step t (l .i) (a .r .entries) (omega arith) (rw (← c .before .is-bad-address .ensures) (c .if1 .left)))
+loop-again c =
+    let L = c .before .before .before in
+    let l = L .loop in
+    let a = L .before .before .args in
+    let t = badAddressIn (a .f .now) (a .h) (a .symbols) (a .r) (a .bias) in
+    (omega arith, l .inv .1 ∙ first-step t (l .i) (a .r .entries) (omega arith) (rw (← c .before .is-bad-address .ensures) (c .if1 .left)))
 
--- src/lib.rt:92:1
 returns-2 : tie.Need-returns-2 Inv-loop μ-loop
-returns-2 c = let l = c .before .loop in let a = c .before .before .before .args in let t = badAddressIn (a .f .now) (a .h) (a .symbols) (a .r) (a .bias) in sym (faultless-none 13 t (a .r .entries) (l .inv .1 ∙ first-none t (l .i) (a .r .entries) (omega arith) (omega arith)))
+returns-2 c =
+    let l = c .before .loop in
+    let a = c .before .before .before .args in
+    let t = badAddressIn (a .f .now) (a .h) (a .symbols) (a .r) (a .bias) in
+    sym (faultless-none 13 t (a .r .entries) (l .inv .1 ∙ first-none t (l .i) (a .r .entries) (omega arith) (omega arith)))
 
 pub check-addresses-spec : {M : Type 1} → statement M
 check-addresses-spec =
-    tie.close
-    (tie.spec
-    Inv-loop
-    μ-loop
-    loop-holds
-    is-bad-address-requires
-    cast-t10
-    returns
-    add-i
-    loop-less
-    loop-again
-    returns-2)
+    tie.close (tie.spec Inv-loop μ-loop loop-holds (search needs) (search needs) returns (search needs) (search needs) loop-again returns-2)
