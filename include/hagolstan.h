@@ -1,0 +1,60 @@
+/* Hagolstan: a module loader for Arm boards with memory tagging.
+ *
+ * Every slice is a pointer and a length. The caller owns every buffer; no call keeps a pointer after it
+ * returns, allocates, or calls back. Buffers lent to one call must not overlap each other. A pointer of
+ * length 0 is not read or written and may be null; a null pointer with another length is an error of the
+ * caller. The calls may be made from several threads at once on buffers that are not shared.
+ *
+ * An answer is one 64-bit number:
+ *   taken:    globals * 256
+ *   refused:  position * 256 + refusal number (1 to 14)
+ * so the low byte of an answer is 0 exactly when the call was taken.
+ */
+#ifndef HAGOLSTAN_H
+#define HAGOLSTAN_H
+
+#include <stddef.h>
+#include <stdint.h>
+
+#ifdef __cplusplus
+extern "C" {
+#endif
+
+/* Examines a module file: checks 1 to 11. Reads the file only. */
+uint64_t hagolstan_examine(const uint8_t *file, size_t file_length);
+
+/* The facts of a module file that hagolstan_examine takes, in one number; 0 where it refuses the file.
+ * HAGOLSTAN_MODE and the macros after it take the number apart. */
+uint64_t hagolstan_facts(const uint8_t *file, size_t file_length);
+
+/* Loads a module: checks 1 to 14, and only then writes.
+ *   file      the module, an ELF64 shared object, at most 1,048,576 bytes
+ *   bias      the address at which memory begins at run time, a multiple of 4,096
+ *   memory    lent memory: offset x stands for the file's address x; a multiple of 16 bytes, at least the end
+ *             of the last PT_LOAD, at most 1,048,576
+ *   plane     lent tag plane: one byte for each 16 bytes of memory
+ *   choices   one tag from 1 to 15 for each global, in the order of the descriptor table
+ * Taken: memory holds segments, zeros and relocated words, plane holds each global's choice and 0 elsewhere;
+ * what the buffers held before has no influence. Refused: memory and plane are byte for byte as lent. */
+uint64_t hagolstan_load(const uint8_t *file, size_t file_length, uint64_t bias,
+                        uint8_t *memory, size_t memory_length,
+                        uint8_t *plane, size_t plane_length,
+                        const uint8_t *choices, size_t choices_length);
+
+/* An answer taken apart. */
+#define HAGOLSTAN_REFUSAL(answer) ((unsigned)((answer) & 0xff))      /* 0: taken */
+#define HAGOLSTAN_POSITION(answer) ((uint64_t)(answer) >> 8)         /* of a refusal */
+#define HAGOLSTAN_GLOBALS_OF(answer) ((uint64_t)(answer) >> 8)       /* of a call that was taken */
+
+/* The facts taken apart. */
+#define HAGOLSTAN_MODE(facts) ((unsigned)((facts) >> 2 & 3))         /* 0 absent, 1 synchronous, 2 asynchronous */
+#define HAGOLSTAN_HEAP(facts) ((unsigned)((facts) >> 4 & 3))         /* 0 absent, 1 off, 2 on */
+#define HAGOLSTAN_STACK(facts) ((unsigned)((facts) >> 6 & 3))        /* 0 absent, 1 off, 2 on */
+#define HAGOLSTAN_GLOBALS(facts) ((unsigned)((facts) >> 16 & 0xffff))
+#define HAGOLSTAN_WORDS(facts) ((unsigned)((facts) >> 32 & 0xffff))  /* words relocated */
+
+#ifdef __cplusplus
+}
+#endif
+
+#endif
