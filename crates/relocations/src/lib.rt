@@ -214,8 +214,8 @@ fn rivals_from(f: &[u8], r: Relocations, i: u16) -> u16
 fn has_place(f: &[u8], r: Relocations, p: u64, i: u16) -> bool
     ensures { λ v. ⌜ v ≡ hasPlace (now (f .entry)) r p i ⌝ }
 {
-    if is_live(f, r, i) {
-        return place_at(f, r, i) == p;
+    if place_at(f, r, i) == p {
+        return is_live(f, r, i);
     }
     false
 }

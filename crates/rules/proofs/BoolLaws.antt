@@ -19,3 +19,7 @@ leb-same a b c d f g = go (leb a b) (leb c d) refl refl
 pub and-false : (a : Bool) → (a && false) ≡ false
 and-false true = refl
 and-false false = refl
+
+pub and-true : (a : Bool) → (a && true) ≡ a
+and-true true = refl
+and-true false = refl
