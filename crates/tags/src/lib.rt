@@ -67,7 +67,7 @@ fn is_bad_choice(i: u16, end: u64, last: u8, start: u64, choice: u8) -> bool
     last == choice
 }
 
-// Check 14: as many choices as globals, and each of them good.
+// Check 14: as many choices as globals, and each of them good. The caller has counted the globals.
 pub fn check_choices(f: &[u8], h: Headers, t: Descriptors, globals: u16, choices: &[u8]) -> Checked
     requires { ⌜ countOf (globalsOf (now f) h t) ≡ good globals ⌝ }
     ensures { λ r. ⌜ ofChecked r ≡ choicesCheck (listOf (globalsOf (now (f .entry)) h t)) (now (choices .entry)) ⌝ }
@@ -83,6 +83,7 @@ pub fn check_choices(f: &[u8], h: Headers, t: Descriptors, globals: u16, choices
     let mut last: u8 = 0;
     for i in 0..globals {
         let st = cursor.step(table, i as u64);
+        // The other cases never come: there are as many globals as were counted.
         let Step::Global(g, next) = st else {
             return Checked::Passed;
         };
@@ -108,7 +109,7 @@ fn tag_global(plane: &mut [u8], g: Global, tag: u8)
     );
 }
 
-// The plane of the choices: 0 but for the granules of the globals.
+// The plane of the choices: 0 but for the granules of the globals. The caller has counted them.
 pub fn tag_globals(
     f: &[u8],
     h: Headers,
@@ -128,6 +129,7 @@ pub fn tag_globals(
     };
     for i in 0..globals {
         let st = cursor.step(table, i as u64);
+        // As above.
         let Step::Global(g, next) = st else {
             return;
         };
