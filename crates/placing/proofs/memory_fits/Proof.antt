@@ -7,7 +7,9 @@ use Rattle.placing.proofs.memory_fits.Tie as tie
 
 returns : tie.Need-returns
 unfolding memoryFits
-returns c = cc
+returns c =
+    let D = c .before .before .before in
+    rw (c .both4 .ensures, c .before .both3 .ensures, c .before .before .both2 .ensures, D .both .ensures, D .before .sum-within .ensures, D .before .before .loads-end-within .ensures)
 
 pub memory-fits-spec : {M : Type 1} → statement M
 memory-fits-spec =

@@ -12,7 +12,7 @@ returns-2 : tie.Need-returns-2
 returns-2 c =
     let P = c .before .before in
     let R = P .before .before in
-    rw (eq-eqb _ _ (R .before .if1 .left), ← R .part-of .ensures) (P .put-bytes .ensures)
+    rw (eq-eqb _ _ (R .before .if1 .left), P .put-bytes .ensures, R .part-of .ensures)
 
 pub place-segment-spec : {M : Type 1} → statement M
 place-segment-spec =

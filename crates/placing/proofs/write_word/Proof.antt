@@ -8,7 +8,7 @@ returns : tie.Need-returns
 returns c =
     let P = c .before .before in
     let S = P .before .before in
-    rw (← S .before .read64 .ensures, ← S .source-tag .ensures) (P .put64 .ensures)
+    rw (← S .before .read64 .ensures, P .put64 .ensures, S .source-tag .ensures)
 
 pub write-word-spec : {M : Type 1} → statement M
 write-word-spec =
