@@ -1,15 +1,14 @@
 -- A run of writes, one entry at a time: what a place holds before its own write is what was loaded.
 -- Assumes nothing.
-use Prim.Native.Nat.{ℕ, zero, suc, _+_, _≤_, _<_}
-use mathlib.Core.Path.{_≡_, refl, sym, ap}
-use mathlib.Core.Bool.{Bool, true, false, cond}
+use Prim.Native.Nat.{ℕ, zero, suc, _+_, _<_}
+use mathlib.Core.Path.{_≡_, refl}
+use mathlib.Core.Bool.{true}
 use mathlib.Core.List.{List}
 use mathlib.Core.Logic.{_⊎_, inl, inr, ⊎-elim}
 use native.Mathlib.Omega.{arith}
 use lib.ListN.{length, getD}
 use Rattle.rules.specs.Bytes.{le}
 use Rattle.rules.specs.Dynamic.{entryOf}
-use Rattle.rules.specs.Memory.{putWord}
 use Rattle.rules.specs.Relocations.{placeAt, live}
 use Rattle.rules.specs.Load.{writes, wordAt}
 use Rattle.rules.specs.declared.Headers.{Headers}
