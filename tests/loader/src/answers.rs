@@ -1,0 +1,138 @@
+//! Answers in the packed form of the C interface, and what two loaders are compared by.
+
+use crate::rules::{Right, Rules};
+use crate::{examine_by, load_by, step_by, Facts, Mode, Refusal, Step, Switch};
+use std::marker::PhantomData;
+
+/// position × 256 + refusal number, or globals × 256.
+pub fn packed(answer: &Result<Facts, Refusal>) -> u64 {
+    match answer {
+        Ok(facts) => facts.globals * 256,
+        Err(refusal) => refusal.position * 256 + u64::from(refusal.number),
+    }
+}
+
+/// 0 where examine refuses, else 1 and the facts.
+pub fn packed_facts(answer: &Result<Facts, Refusal>) -> u64 {
+    let Ok(facts) = answer else { return 0 };
+    let mode = match facts.mode {
+        Mode::Absent => 0,
+        Mode::Synchronous => 1,
+        Mode::Asynchronous => 2,
+    };
+    let switch = |s| match s {
+        Switch::Absent => 0,
+        Switch::Off => 1,
+        Switch::On => 2,
+    };
+    1 + 4 * mode
+        + 16 * switch(facts.heap)
+        + 64 * switch(facts.stack)
+        + (facts.globals << 16)
+        + (facts.words << 32)
+}
+
+/// The arguments of one load; the buffers are filled by a pattern before it.
+#[derive(Clone, Debug, PartialEq, Eq)]
+pub struct Call {
+    pub file: Vec<u8>,
+    pub bias: u64,
+    pub memory_length: usize,
+    pub plane_length: usize,
+    pub choices: Vec<u8>,
+}
+
+/// All that a load and an examine of the same file give.
+#[derive(Clone, Debug, PartialEq, Eq)]
+pub struct Outcome {
+    pub load: u64,
+    pub memory: Vec<u8>,
+    pub plane: Vec<u8>,
+    pub examine: u64,
+    pub facts: u64,
+}
+
+impl Outcome {
+    pub fn number(&self) -> u8 {
+        self.load as u8
+    }
+
+    pub fn position(&self) -> u64 {
+        self.load >> 8
+    }
+
+    /// Memory and plane are still the pattern.
+    pub fn untouched(&self) -> bool {
+        self.memory == memory_pattern(self.memory.len())
+            && self.plane == plane_pattern(self.plane.len())
+    }
+}
+
+pub fn memory_pattern(length: usize) -> Vec<u8> {
+    (0..length).map(|i| (i * 7 + 3) as u8).collect()
+}
+
+pub fn plane_pattern(length: usize) -> Vec<u8> {
+    (0..length).map(|i| (i * 5 + 1) as u8).collect()
+}
+
+pub type StepAnswer = Result<Step, Refusal>;
+
+pub trait Loader {
+    fn examine(&self, file: &[u8]) -> u64;
+    fn facts(&self, file: &[u8]) -> u64;
+    fn load(&self, file: &[u8], bias: u64, memory: &mut [u8], plane: &mut [u8], choices: &[u8])
+        -> u64;
+    /// None where the loader has no call for it.
+    fn step(&self, table: &[u8], position: u64, last_end: u64, index: u64) -> Option<StepAnswer>;
+
+    fn outcome(&self, call: &Call) -> Outcome {
+        let mut memory = memory_pattern(call.memory_length);
+        let mut plane = plane_pattern(call.plane_length);
+        let load = self.load(&call.file, call.bias, &mut memory, &mut plane, &call.choices);
+        let (examine, facts) = (self.examine(&call.file), self.facts(&call.file));
+        Outcome { load, memory, plane, examine, facts }
+    }
+}
+
+/// The Rust loader under some rules.
+pub struct Under<R>(PhantomData<R>);
+
+impl<R> Under<R> {
+    pub const fn new() -> Under<R> {
+        Under(PhantomData)
+    }
+}
+
+impl<R> Default for Under<R> {
+    fn default() -> Under<R> {
+        Under::new()
+    }
+}
+
+pub const RIGHT: Under<Right> = Under::new();
+
+impl<R: Rules> Loader for Under<R> {
+    fn examine(&self, file: &[u8]) -> u64 {
+        packed(&examine_by::<R>(file))
+    }
+
+    fn facts(&self, file: &[u8]) -> u64 {
+        packed_facts(&examine_by::<R>(file))
+    }
+
+    fn load(
+        &self,
+        file: &[u8],
+        bias: u64,
+        memory: &mut [u8],
+        plane: &mut [u8],
+        choices: &[u8],
+    ) -> u64 {
+        packed(&load_by::<R>(file, bias, memory, plane, choices))
+    }
+
+    fn step(&self, table: &[u8], position: u64, last_end: u64, index: u64) -> Option<StepAnswer> {
+        Some(step_by::<R>(table, position, last_end, index))
+    }
+}

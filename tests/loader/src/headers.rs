@@ -1,0 +1,144 @@
+//! Checks 1 to 4: file length, identification, header, PT_LOADs.
+
+use crate::bytes::{u16_at, u32_at, u64_at};
+use crate::rules::Rules;
+use crate::{refusal, Refusal, LARGEST};
+
+const IDENTIFICATION: [u8; 7] = [0x7f, b'E', b'L', b'F', 2, 1, 1];
+const DYN: u16 = 3;
+const AARCH64: u16 = 183;
+pub const HEADER_BYTES: usize = 56;
+const MOST_HEADERS: usize = 16;
+const PT_LOAD: u32 = 1;
+pub const PT_DYNAMIC: u32 = 2;
+const WRITABLE: u32 = 2;
+
+/// A program header as it stands in the file.
+pub struct Header {
+    pub kind: u32,
+    pub flags: u32,
+    pub offset: u64,
+    pub address: u64,
+    pub file_size: u64,
+    pub memory_size: u64,
+    pub align: u64,
+}
+
+impl Header {
+    fn read(bytes: &[u8]) -> Header {
+        Header {
+            kind: u32_at(bytes, 0),
+            flags: u32_at(bytes, 4),
+            offset: u64_at(bytes, 8),
+            address: u64_at(bytes, 16),
+            file_size: u64_at(bytes, 32),
+            memory_size: u64_at(bytes, 40),
+            align: u64_at(bytes, 48),
+        }
+    }
+}
+
+/// A good PT_LOAD: its sums stay far below 2^64.
+#[derive(Clone, Copy, Default)]
+pub struct Segment {
+    pub writable: bool,
+    pub offset: u64,
+    pub address: u64,
+    pub file_size: u64,
+    pub memory_size: u64,
+}
+
+impl Segment {
+    pub fn end(&self) -> u64 {
+        self.address + self.memory_size
+    }
+
+    pub fn contents<'a>(&self, file: &'a [u8]) -> &'a [u8] {
+        &file[self.offset as usize..][..self.file_size as usize]
+    }
+}
+
+/// The PT_LOADs in table order.
+#[derive(Default)]
+pub struct Segments {
+    list: [Segment; MOST_HEADERS],
+    count: usize,
+}
+
+impl Segments {
+    pub fn all(&self) -> &[Segment] {
+        &self.list[..self.count]
+    }
+
+    /// End of the last PT_LOAD, 0 where there is none.
+    pub fn end(&self) -> u64 {
+        self.all().last().map_or(0, Segment::end)
+    }
+
+    /// The file's bytes for a range of addresses that is wholly inside one file part.
+    pub fn backed<'a, R: Rules>(&self, file: &'a [u8], address: u128, size: u64) -> Option<&'a [u8]> {
+        let end = address + u128::from(size);
+        let within = |s: &&Segment| {
+            u128::from(s.address) <= address && end <= u128::from(s.address + R::backing(s))
+        };
+        let segment = self.all().iter().find(within)?;
+        let at = segment.offset as usize + (address as u64 - segment.address) as usize;
+        file.get(at..at + size as usize)
+    }
+}
+
+/// Checks 1 to 3; the program headers' bytes.
+pub fn header_table<R: Rules>(file: &[u8]) -> Result<&[u8], Refusal> {
+    let length = file.len() as u64;
+    if !R::file_length(length) || length < 64 {
+        return Err(refusal(1, 0));
+    }
+    if let Some(wrong) = (0..7).find(|&i| file[i] != IDENTIFICATION[i]) {
+        return Err(refusal(2, wrong as u64));
+    }
+    let count = usize::from(u16_at(file, 56));
+    let start = u64_at(file, 32);
+    let bytes = count * HEADER_BYTES;
+    let good = u16_at(file, 16) == DYN
+        && u16_at(file, 18) == AARCH64
+        && u32_at(file, 20) == 1
+        && usize::from(u16_at(file, 54)) == HEADER_BYTES
+        && (1..=MOST_HEADERS).contains(&count)
+        && R::sum(start, bytes as u64) <= length.into();
+    if !good {
+        return Err(refusal(3, 0));
+    }
+    file.get(start as usize..).and_then(|rest| rest.get(..bytes)).ok_or(refusal(3, 0))
+}
+
+pub fn headers(table: &[u8]) -> impl Iterator<Item = (u64, Header)> + '_ {
+    (0..).zip(table.chunks_exact(HEADER_BYTES).map(Header::read))
+}
+
+fn good_load<R: Rules>(header: &Header, end_before: u64, length: u64) -> bool {
+    header.memory_size != 0
+        && header.file_size <= header.memory_size
+        && R::in_file(header.offset, header.file_size, length)
+        && R::sum(header.address, header.memory_size) <= LARGEST.into()
+        && R::follows(header.address, end_before)
+        && R::aligned(header.align, header.offset, header.address)
+}
+
+/// Check 4.
+pub fn segments<R: Rules>(file: &[u8], table: &[u8]) -> Result<Segments, Refusal> {
+    let mut segments = Segments::default();
+    for (index, header) in headers(table).filter(|(_, h)| h.kind == PT_LOAD) {
+        if !good_load::<R>(&header, segments.end(), file.len() as u64) {
+            return Err(refusal(4, index));
+        }
+        segments.list[segments.count] = Segment {
+            writable: header.flags & WRITABLE != 0,
+            offset: header.offset,
+            address: header.address,
+            file_size: header.file_size,
+            memory_size: header.memory_size,
+        };
+        segments.count += 1;
+    }
+    Ok(segments)
+}

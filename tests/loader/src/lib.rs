@@ -1,0 +1,84 @@
+//! A plain loader written from document 01 alone, to be compared with the proved one.
+
+pub mod answers;
+mod bytes;
+pub mod crc;
+mod descriptors;
+mod dynamic;
+pub mod faults;
+pub mod ffi;
+pub mod generate;
+mod headers;
+mod load;
+pub mod random;
+mod relocations;
+pub mod rules;
+pub mod vectors;
+
+pub use descriptors::{step_by, Step};
+pub use load::{examine_by, load_by};
+
+use rules::Right;
+
+/// Largest file and largest lent memory, in bytes.
+pub const LARGEST: u64 = 1_048_576;
+/// Most relocations, and most descriptors.
+pub const MOST: usize = 1_024;
+/// Bytes of a granule.
+pub const GRANULE: u64 = 16;
+/// End of the addresses that a pointer can hold below its top bits.
+pub const ADDRESS_END: u64 = 1 << 48;
+
+#[derive(Clone, Copy, Debug, PartialEq, Eq)]
+pub struct Refusal {
+    pub number: u8,
+    pub position: u64,
+}
+
+pub(crate) fn refusal(number: u8, position: u64) -> Refusal {
+    Refusal { number, position }
+}
+
+#[derive(Clone, Copy, Debug, PartialEq, Eq)]
+pub enum Mode {
+    Absent,
+    Synchronous,
+    Asynchronous,
+}
+
+#[derive(Clone, Copy, Debug, PartialEq, Eq)]
+pub enum Switch {
+    Absent,
+    Off,
+    On,
+}
+
+#[derive(Clone, Copy, Debug, PartialEq, Eq)]
+pub struct Facts {
+    pub mode: Mode,
+    pub heap: Switch,
+    pub stack: Switch,
+    pub globals: u64,
+    pub words: u64,
+}
+
+/// Checks 1 to 11 of a file, and its facts.
+pub fn examine(file: &[u8]) -> Result<Facts, Refusal> {
+    examine_by::<Right>(file)
+}
+
+/// Checks 1 to 14, then places, tags and relocates. A refusal leaves both buffers as they were.
+pub fn load(
+    file: &[u8],
+    bias: u64,
+    memory: &mut [u8],
+    plane: &mut [u8],
+    choices: &[u8],
+) -> Result<Facts, Refusal> {
+    load_by::<Right>(file, bias, memory, plane, choices)
+}
+
+/// Reads one descriptor.
+pub fn step(table: &[u8], position: u64, last_end: u64, index: u64) -> Result<Step, Refusal> {
+    step_by::<Right>(table, position, last_end, index)
+}

@@ -1,0 +1,182 @@
+//! The single rules of document 01 that the seeded faults change. The defaults are the right
+//! ones; a fault overrides one of them.
+
+use crate::headers::Segment;
+use crate::{ADDRESS_END, LARGEST, MOST};
+
+pub trait Rules {
+    /// 1: lengths that a file may have.
+    fn file_length(length: u64) -> bool {
+        (64..=LARGEST).contains(&length)
+    }
+
+    /// Sums of addresses and sizes are exact.
+    fn sum(a: u64, b: u64) -> u128 {
+        u128::from(a) + u128::from(b)
+    }
+
+    /// 4: a PT_LOAD starts at or after the end of the one before.
+    fn follows(address: u64, end_before: u64) -> bool {
+        address >= end_before
+    }
+
+    /// 4: align is 0, 1 or a power of two modulo which offset and address agree.
+    fn aligned(align: u64, offset: u64, address: u64) -> bool {
+        align <= 1 || align.is_power_of_two() && offset % align == address % align
+    }
+
+    /// 4: what of offset and file size must lie in the file, even when the size is 0.
+    fn in_file(offset: u64, file_size: u64, length: u64) -> bool {
+        Self::sum(offset, file_size) <= u128::from(length)
+    }
+
+    /// The part of a segment that can back a table.
+    fn backing(segment: &Segment) -> u64 {
+        segment.file_size
+    }
+
+    /// 5: which header is named when there are two PT_DYNAMICs.
+    fn second_dynamic(_first: u64, second: u64) -> u64 {
+        second
+    }
+
+    /// 5: the most bytes of PT_DYNAMIC.
+    const DYNAMIC_BYTES: u64 = 4_096;
+    /// 5: PT_DYNAMIC is read at its address, not at its offset.
+    const DYNAMIC_AT_OFFSET: bool = false;
+    /// 6: entries end at the first DT_NULL.
+    const READS_PAST_NULL: bool = false;
+    /// 6: a missing partner is refused.
+    const PARTNERS: bool = true;
+    /// 6: other tags may be repeated.
+    const UNKNOWN_ONCE: bool = false;
+    /// 6: tags are compared on 64 bits.
+    const TAG_BITS: u32 = 64;
+    /// 7: the most relocations.
+    const MOST_RELOCATIONS: usize = MOST;
+    /// 7: a table of 0 bytes is accepted anywhere.
+    const EMPTY_ANYWHERE: bool = true;
+    /// 9: the most descriptors.
+    const MOST_DESCRIPTORS: usize = MOST;
+
+    /// The tenth byte of a number.
+    fn tenth(byte: u8) -> bool {
+        byte <= 1
+    }
+
+    /// A number may be padded with zero bits.
+    const PADDED: bool = true;
+
+    /// The size of a global whose first number has three low bits of 0.
+    fn second_size(second: u64) -> u128 {
+        u128::from(second) + 1
+    }
+
+    /// Bytes between a global and the end of the one before.
+    fn distance(granules: u64) -> u128 {
+        u128::from(granules) * 16
+    }
+
+    /// 9: a global lies inside the memory part of one PT_LOAD.
+    fn holds(segments: &[Segment], start: u64, end: u64) -> bool {
+        segments.iter().any(|s| s.address <= start && end <= s.end())
+    }
+
+    /// 8 and 9 come from one walk.
+    const RANGES_LAST: bool = false;
+
+    /// 10 before 11 at each entry.
+    const PLACE_FIRST: bool = false;
+
+    /// 10: symbol types that are refused.
+    fn refused_type(kind: u8) -> bool {
+        kind == 6 || kind == 10
+    }
+
+    /// 10: sections that are refused whatever the binding.
+    fn refused_section(section: u16) -> bool {
+        section >= 0xff00
+    }
+
+    /// 10: section 0 needs this binding.
+    fn weak(binding: u8) -> bool {
+        binding == 2
+    }
+
+    /// 11: a place lies in one writable segment.
+    fn place_in(segment: &Segment, place: u64) -> bool {
+        segment.writable && segment.address <= place && Self::sum(place, 8) <= segment.end().into()
+    }
+
+    /// 11: the repeat search passes over skipped entries.
+    fn repeats(kind_before: u32, place_before: u64, place: u64) -> bool {
+        kind_before != 0 && place_before == place
+    }
+
+    /// 12: memory length against the end of the last PT_LOAD.
+    fn memory_reaches(length: u64, end: u64) -> bool {
+        length >= end
+    }
+
+    /// 12: run-time addresses end at 2^48.
+    fn run_fits(bias: u64, length: u64) -> bool {
+        Self::sum(bias, length) <= ADDRESS_END.into()
+    }
+
+    /// 12 comes before 13.
+    const ADDRESSES_FIRST: bool = false;
+
+    /// 13: addresses that a word can hold.
+    fn address_fits(address: i128) -> bool {
+        (0..i128::from(ADDRESS_END)).contains(&address)
+    }
+
+    /// 14: a choice on its own.
+    fn choice(choice: u8) -> bool {
+        (1..=15).contains(&choice)
+    }
+
+    /// 14: a choice beside the one before.
+    fn differs(choice: u8, before: u8, abut: bool) -> bool {
+        !abut || choice != before
+    }
+
+    /// Tags are written after the last check.
+    const TAGS_BEFORE_CHOICES: bool = false;
+    /// Memory and plane outside segments and globals are cleared.
+    const CLEARS_MEMORY: bool = true;
+    const CLEARS_PLANE: bool = true;
+
+    /// Tag source of 257 and 1025; exact.
+    fn symbol_source(bias: u64, value: u64, _addend: i64) -> Option<u128> {
+        Some(Self::sum(bias, value))
+    }
+
+    /// Tag source of 1027, wrapping at 2^64.
+    fn relative_source(bias: u64, addend: i64, at_place: u64) -> Option<u128> {
+        Some(bias.wrapping_add_signed(addend).wrapping_add(at_place).into())
+    }
+
+    /// Tag source of a weak undefined symbol.
+    fn weak_source(_bias: u64, _value: u64) -> Option<u128> {
+        None
+    }
+
+    /// Address of a weak undefined symbol's word.
+    fn weak_address(_bias: u64, addend: i64) -> i128 {
+        addend.into()
+    }
+
+    /// A source in the lent memory's run of addresses has a tag.
+    fn in_run(source: u128, bias: u64, length: u64, _last_end: u64) -> bool {
+        u128::from(bias) <= source && source < Self::sum(bias, length)
+    }
+
+    /// Symbols are read from the file.
+    const SYMBOLS_FROM_MEMORY: bool = false;
+}
+
+/// Document 01 as it stands.
+pub struct Right;
+
+impl Rules for Right {}

@@ -1,0 +1,129 @@
+//! The outside vectors in tests/vectors.
+
+use crate::answers::{Call, Outcome, StepAnswer};
+use crate::bytes::{u32_at, u64_at};
+use crate::crc::crc32;
+use crate::{Facts, Mode, Refusal, Step, Switch};
+use std::path::PathBuf;
+
+pub struct LoadVector {
+    pub name: String,
+    pub call: Call,
+    pub answer: String,
+}
+
+pub struct StepVector {
+    pub table: Vec<u8>,
+    pub position: u64,
+    pub last_end: u64,
+    pub index: u64,
+    pub answer: String,
+}
+
+fn read(name: &str) -> Vec<u8> {
+    let path = PathBuf::from(env!("CARGO_MANIFEST_DIR")).join("../vectors").join(name);
+    std::fs::read(&path).unwrap_or_else(|e| panic!("{}: {e}", path.display()))
+}
+
+fn lines(name: &str) -> Vec<String> {
+    String::from_utf8(read(name)).unwrap().lines().map(str::to_owned).collect()
+}
+
+struct Records<'a>(&'a [u8]);
+
+impl<'a> Records<'a> {
+    fn bytes(&mut self, count: usize) -> &'a [u8] {
+        let (taken, rest) = self.0.split_at(count);
+        self.0 = rest;
+        taken
+    }
+
+    fn u32(&mut self) -> usize {
+        u32_at(self.bytes(4), 0) as usize
+    }
+
+    fn u64(&mut self) -> u64 {
+        u64_at(self.bytes(8), 0)
+    }
+
+    fn counted(&mut self) -> Vec<u8> {
+        let count = self.u32();
+        self.bytes(count).to_vec()
+    }
+}
+
+pub fn loads() -> Vec<LoadVector> {
+    let bytes = read("load.cases");
+    let mut records = Records(&bytes);
+    let named = lines("load.names").into_iter().zip(lines("load.answers"));
+    let vectors = named
+        .map(|(name, answer)| {
+            let call = Call {
+                file: records.counted(),
+                bias: records.u64(),
+                memory_length: records.u32(),
+                plane_length: records.u32(),
+                choices: records.counted(),
+            };
+            assert_eq!(records.u32(), 0);
+            LoadVector { name, call, answer }
+        })
+        .collect();
+    assert!(records.0.is_empty());
+    vectors
+}
+
+pub fn steps() -> Vec<StepVector> {
+    let bytes = read("descriptors.cases");
+    let mut records = Records(&bytes);
+    let vectors = lines("descriptors.answers")
+        .into_iter()
+        .map(|answer| StepVector {
+            table: records.counted(),
+            position: records.u64(),
+            last_end: records.u64(),
+            index: records.u64(),
+            answer,
+        })
+        .collect();
+    assert!(records.0.is_empty());
+    vectors
+}
+
+/// The line of load.answers for an outcome and the facts of examine.
+pub fn load_line(outcome: &Outcome, examined: &Result<Facts, Refusal>) -> String {
+    let switch = |s| match s {
+        Switch::Absent => "absent",
+        Switch::Off => "off",
+        Switch::On => "on",
+    };
+    let facts = match examined {
+        Err(_) => "- - - - - -".to_owned(),
+        Ok(f) => {
+            let mode = match f.mode {
+                Mode::Absent => "absent",
+                Mode::Synchronous => "sync",
+                Mode::Asynchronous => "async",
+            };
+            format!("{mode} {} {} {} {} 0", switch(f.heap), switch(f.stack), f.globals, f.words)
+        }
+    };
+    format!(
+        "{} 0 {:08x} {:08x} 00000000 {} {facts}",
+        outcome.load,
+        crc32(&outcome.memory),
+        crc32(&outcome.plane),
+        outcome.examine,
+    )
+}
+
+/// The line of descriptors.answers for a step.
+pub fn step_line(answer: &StepAnswer) -> String {
+    match answer {
+        Ok(Step::Finished) => "finished".to_owned(),
+        Ok(Step::Global { start, granules, position, end }) => {
+            format!("global {start} {granules} {position} {end}")
+        }
+        Err(r) => format!("refused {} {}", r.number, r.position),
+    }
+}

@@ -1,0 +1,24 @@
+//! The Rust loader gives every answer of the outside vectors.
+
+use loader::answers::{Loader, RIGHT};
+use loader::{examine, step, vectors};
+
+#[test]
+fn loads() {
+    let vectors = vectors::loads();
+    assert_eq!(vectors.len(), 700);
+    for (i, v) in vectors.iter().enumerate() {
+        let line = vectors::load_line(&RIGHT.outcome(&v.call), &examine(&v.call.file));
+        assert_eq!(line, v.answer, "case {i}, {}", v.name);
+    }
+}
+
+#[test]
+fn steps() {
+    let vectors = vectors::steps();
+    assert_eq!(vectors.len(), 400);
+    for (i, v) in vectors.iter().enumerate() {
+        let line = vectors::step_line(&step(&v.table, v.position, v.last_end, v.index));
+        assert_eq!(line, v.answer, "case {i}");
+    }
+}
