@@ -117,16 +117,20 @@ impl<'a> Image<'a> {
             }
             let source = source::<R>(target, bias, entry.addend, u64_at(memory, place));
             let tag = match source {
-                Some(s) if R::in_run(s, bias, memory.len() as u64, self.segments.end()) => {
-                    let granule = (s - u128::from(bias)) as usize / GRANULE as usize;
-                    plane.get(granule).copied().unwrap_or(0)
-                }
-                _ => 0,
+                Some(source) => tag_at(plane, source, bias),
+                None => 0,
             };
             let word = address::<R>(target, bias, entry.addend) as u64 | u64::from(tag) << 56;
             memory[place..place + 8].copy_from_slice(&word.to_le_bytes());
         }
     }
+}
+
+/// The tag of a source's granule, 0 outside the lent memory's run of addresses.
+fn tag_at(plane: &[u8], source: u128, bias: u64) -> u8 {
+    let offset = source.checked_sub(bias.into());
+    let granule = offset.and_then(|o| usize::try_from(o / u128::from(GRANULE)).ok());
+    granule.and_then(|g| plane.get(g)).copied().unwrap_or(0)
 }
 
 pub fn examine_by<R: Rules>(file: &[u8]) -> Result<Facts, Refusal> {

@@ -167,11 +167,6 @@ pub trait Rules {
         addend.into()
     }
 
-    /// A source in the lent memory's run of addresses has a tag.
-    fn in_run(source: u128, bias: u64, length: u64, _last_end: u64) -> bool {
-        u128::from(bias) <= source && source < Self::sum(bias, length)
-    }
-
     /// Symbols are read from the file.
     const SYMBOLS_FROM_MEMORY: bool = false;
 }

@@ -1,0 +1,148 @@
+//! Calls that need a module of their own: the limits of counts and lengths.
+
+use super::damage::Expected::{self, Refused, Taken};
+use super::module::*;
+use crate::answers::Call;
+use crate::random::Random;
+use crate::{LARGEST, MOST};
+
+pub type Special = (&'static str, fn(&mut Random) -> (Call, Expected));
+
+fn of(r: &mut Random, shape: Shape, expected: Expected) -> (Call, Expected) {
+    (Module::shaped(r, &shape).call(), expected)
+}
+
+/// A file of 64 bytes whose header table, if inside, begins at byte 8.
+fn smallest(kind: u8, at: u8, expected: Expected) -> (Call, Expected) {
+    let mut file = vec![0; 64];
+    file[..7].copy_from_slice(&[0x7f, 0x45, 0x4c, 0x46, 2, 1, 1]);
+    (file[8], file[16], file[18], file[20]) = (kind, 3, 183, 1);
+    (file[32], file[54], file[56]) = (at, 56, 1);
+    let call = Call { file, bias: 0, memory_length: 64, plane_length: 4, choices: Vec::new() };
+    (call, expected)
+}
+
+fn many_globals(r: &mut Random, count: usize) -> Module {
+    let shape = Shape {
+        loads: Some(1),
+        globals: Some(count),
+        short_globals: true,
+        bss: Some(17 * 1024),
+        ..Shape::default()
+    };
+    Module::shaped(r, &shape)
+}
+
+fn many_relocations(r: &mut Random, count: usize) -> Module {
+    Module::shaped(r, &Shape { relocations: Some(count), ..Shape::default() })
+}
+
+const LAST: usize = MOST - 1;
+
+pub const SPECIALS: &[Special] = &[
+    ("64 bytes, table outside", |_| smallest(1, 64, Refused(3, 0))),
+    ("64 bytes, table one past", |_| smallest(1, 9, Refused(3, 0))),
+    ("64 bytes, a load", |_| smallest(1, 8, Refused(4, 0))),
+    ("64 bytes, dynamic", |_| smallest(2, 8, Refused(5, 0))),
+    ("64 bytes, other", |_| smallest(0, 8, Refused(5, 1))),
+    ("63 bytes", |_| {
+        let (mut call, _) = smallest(1, 8, Taken);
+        call.file.pop();
+        (call, Refused(1, 0))
+    }),
+    ("the largest file", |r| {
+        of(r, Shape { file_length: Some(LARGEST as usize), ..Shape::default() }, Taken)
+    }),
+    ("one byte more", |r| {
+        of(r, Shape { file_length: Some(LARGEST as usize + 1), ..Shape::default() }, Refused(1, 0))
+    }),
+    ("1,023 relocations", |r| (many_relocations(r, LAST).call(), Taken)),
+    ("1,024 relocations", |r| (many_relocations(r, MOST).call(), Taken)),
+    ("1,025 relocations", |r| (many_relocations(r, MOST + 1).call(), Refused(7, 0))),
+    ("1,025 relocations, one skipped", |r| {
+        let mut m = many_relocations(r, MOST + 1);
+        m.relocations[7].kind = NONE;
+        (m.call(), Refused(7, 0))
+    }),
+    ("1,024 relocations, the last repeats the first", |r| {
+        let mut m = many_relocations(r, MOST);
+        m.relocations[LAST].place = m.relocations[0].place;
+        (m.call(), Refused(11, LAST as u64))
+    }),
+    ("1,024 relocations, the last of a bad kind", |r| {
+        let mut m = many_relocations(r, MOST);
+        m.relocations[LAST].kind = 1026;
+        (m.call(), Refused(10, LAST as u64))
+    }),
+    ("1,024 relocations, the last address below 0", |r| {
+        let mut m = many_relocations(r, MOST);
+        let last = &mut m.relocations[LAST];
+        (last.kind, last.symbol, last.addend) = (RELATIVE, 0, -1 - m.bias as i64);
+        (m.call(), Refused(13, LAST as u64))
+    }),
+    ("1,023 descriptors", |r| (many_globals(r, LAST).call(), Taken)),
+    ("1,024 descriptors", |r| (many_globals(r, MOST).call(), Taken)),
+    ("1,025 descriptors", |r| (many_globals(r, MOST + 1).call(), Refused(9, MOST as u64))),
+    ("1,024 descriptors and a cut one", |r| {
+        let mut m = many_globals(r, MOST);
+        let mut bytes = m.plain_prefix(MOST);
+        bytes.push(0x80);
+        assert!(m.put_descriptors(bytes));
+        (m.call(), Refused(9, MOST as u64))
+    }),
+    ("1,024 descriptors, the last cut", |r| {
+        let mut m = many_globals(r, MOST);
+        let mut bytes = m.plain_prefix(LAST);
+        bytes.push(0x80);
+        assert!(m.put_descriptors(bytes));
+        (m.call(), Refused(8, LAST as u64))
+    }),
+    ("1,024 descriptors, the last choice as before", |r| {
+        let mut m = many_globals(r, MOST);
+        m.choices[LAST] = m.choices[LAST - 1];
+        (m.call(), Refused(14, LAST as u64))
+    }),
+    ("4,096 bytes of dynamic entries", |r| {
+        of(r, Shape { entries: Some(256), null_last: true, ..Shape::default() }, Taken)
+    }),
+    ("4,112 bytes of dynamic entries", |r| {
+        let m = Module::shaped(r, &Shape { entries: Some(257), ..Shape::default() });
+        (m.call(), Refused(5, m.dynamic_header().unwrap() as u64))
+    }),
+    ("one dynamic entry", |r| {
+        let mut m = Module::shaped(r, &Shape { globals: Some(0), ..Shape::default() });
+        let i = m.dynamic_header().unwrap();
+        m.headers[i].file_size = 16;
+        m.dynamic[0].0 = 0;
+        (m.call(), Taken)
+    }),
+    ("16 headers", |r| of(r, Shape { headers: Some(16), ..Shape::default() }, Taken)),
+    ("16 loads less one", |r| {
+        let shape =
+            Shape { headers: Some(16), loads: Some(15), spare: Some(false), ..Shape::default() };
+        of(r, shape, Taken)
+    }),
+    ("17 headers", |r| of(r, Shape { headers: Some(17), ..Shape::default() }, Refused(3, 0))),
+    ("everything at its limit", |r| {
+        let mut m = Module::shaped(
+            r,
+            &Shape {
+                loads: Some(1),
+                headers: Some(16),
+                entries: Some(256),
+                null_last: true,
+                globals: Some(MOST),
+                short_globals: true,
+                relocations: Some(MOST),
+                spare: Some(false),
+                bss: Some(900_000),
+                file_length: Some(LARGEST as usize),
+            },
+        );
+        let load = m.loads()[0];
+        m.headers[load].memory_size = LARGEST - m.headers[load].address;
+        (m.memory, m.plane) = (LARGEST, LARGEST / 16);
+        let taken = if m.bias + m.memory <= 1 << 48 { Taken } else { Refused(12, 0) };
+        (m.call(), taken)
+    }),
+];
