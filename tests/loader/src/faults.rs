@@ -1,1 +1,314 @@
-//! x
+//! Wrong variants of the Rust loader: each breaks one rule. The generated cases must tell each
+//! of them from the right one.
+
+use crate::answers::{Loader, Under};
+use crate::headers::Segment;
+use crate::rules::Rules;
+use crate::ADDRESS_END;
+
+pub struct Fault {
+    pub name: &'static str,
+    pub loader: &'static (dyn Loader + Sync),
+}
+
+/// Defines each fault as the rules with the given items put in, and lists them all.
+macro_rules! faults {
+    ($($kind:ident $name:literal { $($item:item)* })*) => {
+        $(
+            pub struct $kind;
+            impl Rules for $kind { $($item)* }
+        )*
+        pub const FAULTS: &[Fault] =
+            &[$(Fault { name: $name, loader: &Under::<$kind>::new() }),*];
+    };
+}
+
+faults! {
+    ForgetsPlace "the tag source forgets *P" {
+        fn relative_source(bias: u64, addend: i64, _: u64) -> Option<u128> {
+            Some(bias.wrapping_add_signed(addend).into())
+        }
+    }
+    UnsignedPlace "*P unsigned with a range check" {
+        fn relative_source(bias: u64, addend: i64, at_place: u64) -> Option<u128> {
+            u128::try_from(i128::from(bias) + i128::from(addend) + i128::from(at_place)).ok()
+        }
+    }
+    SecondIsSize "the second number is the size" {
+        fn second_size(second: u64) -> u128 {
+            second.into()
+        }
+    }
+    WeakGranuleZero "weak undefined takes granule 0's tag" {
+        fn weak_source(_: u64, _: u64) -> Option<u128> {
+            Some(0)
+        }
+    }
+    WeakAsDefined "weak undefined takes its value's tag" {
+        fn weak_source(bias: u64, value: u64) -> Option<u128> {
+            Some(u128::from(bias) + u128::from(value))
+        }
+    }
+    WeakBiased "weak undefined gets the bias" {
+        fn weak_address(bias: u64, addend: i64) -> i128 {
+            i128::from(bias) + i128::from(addend)
+        }
+    }
+    AddressAtLimit "13 with at most 2^48" {
+        fn address_fits(address: i128) -> bool {
+            (0..=i128::from(ADDRESS_END)).contains(&address)
+        }
+    }
+    AddressBelowZero "13 on wrapped addresses" {
+        fn address_fits(address: i128) -> bool {
+            (address as u64) < ADDRESS_END
+        }
+    }
+    ComparesSkipped "the repeat test compares skipped entries" {
+        fn repeats(_: u32, place_before: u64, place: u64) -> bool {
+            place_before == place
+        }
+    }
+    NoRepeats "no repeat test" {
+        fn repeats(_: u32, _: u64, _: u64) -> bool {
+            false
+        }
+    }
+    PlaceFirst "11 before 10" {
+        const PLACE_FIRST: bool = true;
+    }
+    NoPartners "no partner rule" {
+        const PARTNERS: bool = false;
+    }
+    SymbolsFromMemory "symbols read from relocated memory" {
+        const SYMBOLS_FROM_MEMORY: bool = true;
+    }
+    TagsEarly "tags written before 14" {
+        const TAGS_BEFORE_CHOICES: bool = true;
+    }
+    SourceWithAddend "ABS64's tag source with the addend" {
+        fn symbol_source(bias: u64, value: u64, addend: i64) -> Option<u128> {
+            u128::try_from(i128::from(bias) + i128::from(value) + i128::from(addend)).ok()
+        }
+    }
+    FileAtLimit "a file below 1,048,576 bytes only" {
+        fn file_length(length: u64) -> bool {
+            (64..1_048_576).contains(&length)
+        }
+    }
+    FileOver "a file of any length" {
+        fn file_length(length: u64) -> bool {
+            length >= 64
+        }
+    }
+    WrappedSums "sums wrap at 2^64" {
+        fn sum(a: u64, b: u64) -> u128 {
+            a.wrapping_add(b).into()
+        }
+    }
+    LoadsOverlap "PT_LOADs may overlap" {
+        fn follows(_: u64, _: u64) -> bool {
+            true
+        }
+    }
+    LoadsApart "PT_LOADs may not abut" {
+        fn follows(address: u64, end_before: u64) -> bool {
+            end_before == 0 || address > end_before
+        }
+    }
+    AnyPower "offset and address need not agree" {
+        fn aligned(align: u64, _: u64, _: u64) -> bool {
+            align <= 1 || align.is_power_of_two()
+        }
+    }
+    AnyAlign "align need not be a power of two" {
+        fn aligned(align: u64, offset: u64, address: u64) -> bool {
+            align <= 1 || offset % align == address % align
+        }
+    }
+    EmptyFree "an empty file part may have any offset" {
+        fn in_file(offset: u64, file_size: u64, length: u64) -> bool {
+            file_size == 0 || Self::sum(offset, file_size) <= u128::from(length)
+        }
+    }
+    MemoryBacks "the memory part backs tables" {
+        fn backing(segment: &Segment) -> u64 {
+            segment.memory_size
+        }
+    }
+    FirstDynamic "two PT_DYNAMICs name the first" {
+        fn second_dynamic(first: u64, _: u64) -> u64 {
+            first
+        }
+    }
+    DynamicAtOffset "PT_DYNAMIC read at its offset" {
+        const DYNAMIC_AT_OFFSET: bool = true;
+    }
+    DynamicLarger "PT_DYNAMIC of 4,112 bytes" {
+        const DYNAMIC_BYTES: u64 = 4_112;
+    }
+    DynamicSmaller "PT_DYNAMIC of 4,080 bytes at most" {
+        const DYNAMIC_BYTES: u64 = 4_080;
+    }
+    PastNull "entries after DT_NULL are read" {
+        const READS_PAST_NULL: bool = true;
+    }
+    UnknownOnce "unknown tags may not be repeated" {
+        const UNKNOWN_ONCE: bool = true;
+    }
+    ShortTags "tags compared on 32 bits" {
+        const TAG_BITS: u32 = 32;
+    }
+    MoreRelocations "1,025 relocations" {
+        const MOST_RELOCATIONS: usize = 1_025;
+    }
+    FewerRelocations "1,023 relocations at most" {
+        const MOST_RELOCATIONS: usize = 1_023;
+    }
+    EmptyBacked "a table of 0 bytes must be backed" {
+        const EMPTY_ANYWHERE: bool = false;
+    }
+    MoreDescriptors "1,025 descriptors" {
+        const MOST_DESCRIPTORS: usize = 1_025;
+    }
+    FewerDescriptors "1,023 descriptors at most" {
+        const MOST_DESCRIPTORS: usize = 1_023;
+    }
+    TenthFree "any tenth byte" {
+        fn tenth(byte: u8) -> bool {
+            byte < 0x80
+        }
+    }
+    TenthZero "the tenth byte must be 0" {
+        fn tenth(byte: u8) -> bool {
+            byte == 0
+        }
+    }
+    NoPadding "padded numbers are refused" {
+        const PADDED: bool = false;
+    }
+    SecondWraps "the size wraps at 2^64" {
+        fn second_size(second: u64) -> u128 {
+            second.wrapping_add(1).into()
+        }
+    }
+    DistanceWraps "the distance wraps at 2^64" {
+        fn distance(granules: u64) -> u128 {
+            granules.wrapping_mul(16).into()
+        }
+    }
+    GlobalOverLoads "a global may lie over two PT_LOADs" {
+        fn holds(segments: &[Segment], start: u64, end: u64) -> bool {
+            let mut at = start;
+            for s in segments {
+                if s.address <= at && at < s.end() {
+                    at = s.end();
+                }
+            }
+            end <= at
+        }
+    }
+    GlobalStart "only a global's start is tested" {
+        fn holds(segments: &[Segment], start: u64, _: u64) -> bool {
+            segments.iter().any(|s| s.address <= start && start < s.end())
+        }
+    }
+    RangesLast "9 after all of 8" {
+        const RANGES_LAST: bool = true;
+    }
+    TypeTen "IFUNC symbols are allowed" {
+        fn refused_type(kind: u8) -> bool {
+            kind == 6
+        }
+    }
+    TypeSix "TLS symbols are allowed" {
+        fn refused_type(kind: u8) -> bool {
+            kind == 10
+        }
+    }
+    SectionAfter "section 0xff00 is allowed" {
+        fn refused_section(section: u16) -> bool {
+            section > 0xff00
+        }
+    }
+    SectionBefore "section 0xfeff is refused" {
+        fn refused_section(section: u16) -> bool {
+            section >= 0xfeff
+        }
+    }
+    AnyBinding "undefined symbols of any binding" {
+        fn weak(_: u8) -> bool {
+            true
+        }
+    }
+    ReadOnlyPlace "places in read-only segments" {
+        fn place_in(segment: &Segment, place: u64) -> bool {
+            segment.address <= place && u128::from(place) + 8 <= segment.end().into()
+        }
+    }
+    PlaceStart "only a place's first byte is tested" {
+        fn place_in(segment: &Segment, place: u64) -> bool {
+            segment.writable && segment.address <= place && place < segment.end()
+        }
+    }
+    PlaceInFile "a place must be in the file part" {
+        fn place_in(segment: &Segment, place: u64) -> bool {
+            let end = segment.address + segment.file_size;
+            segment.writable && segment.address <= place && u128::from(place) + 8 <= end.into()
+        }
+    }
+    MemoryOver "memory must go past the last end" {
+        fn memory_reaches(length: u64, end: u64) -> bool {
+            length > end
+        }
+    }
+    MemoryShort "memory may end a granule early" {
+        fn memory_reaches(length: u64, end: u64) -> bool {
+            length + 16 >= end
+        }
+    }
+    RunBelow "run-time addresses end below 2^48" {
+        fn run_fits(bias: u64, length: u64) -> bool {
+            Self::sum(bias, length) < ADDRESS_END.into()
+        }
+    }
+    RunFree "only the bias is below 2^48" {
+        fn run_fits(bias: u64, _: u64) -> bool {
+            bias < ADDRESS_END
+        }
+    }
+    AddressesFirst "13 before 12" {
+        const ADDRESSES_FIRST: bool = true;
+    }
+    ChoiceZero "choice 0 is allowed" {
+        fn choice(choice: u8) -> bool {
+            choice <= 15
+        }
+    }
+    ChoiceSixteen "choice 16 is allowed" {
+        fn choice(choice: u8) -> bool {
+            (1..=16).contains(&choice)
+        }
+    }
+    ChoiceLow "only a choice's low bits are tested" {
+        fn choice(choice: u8) -> bool {
+            choice & 15 != 0
+        }
+    }
+    AbutFree "abutting globals may share a tag" {
+        fn differs(_: u8, _: u8, _: bool) -> bool {
+            true
+        }
+    }
+    AbutAlways "neighbours over a gap must differ" {
+        fn differs(choice: u8, before: u8, _: bool) -> bool {
+            choice != before
+        }
+    }
+    MemoryKept "other memory is not cleared" {
+        const CLEARS_MEMORY: bool = false;
+    }
+    PlaneKept "other granules are not cleared" {
+        const CLEARS_PLANE: bool = false;
+    }
+}
