@@ -50,6 +50,8 @@ pub struct Outcome {
     pub plane: Vec<u8>,
     pub examine: u64,
     pub facts: u64,
+    /// A byte beside the lent buffers was changed.
+    pub strayed: bool,
 }
 
 impl Outcome {
@@ -76,6 +78,29 @@ pub fn plane_pattern(length: usize) -> Vec<u8> {
     (0..length).map(|i| (i * 5 + 1) as u8).collect()
 }
 
+/// A lent buffer between margins, at an odd address.
+struct Lent(Vec<u8>);
+
+const MARGIN: usize = 61;
+const BESIDE: u8 = 0xc9;
+
+impl Lent {
+    fn new(bytes: &[u8]) -> Lent {
+        let margin = [BESIDE; MARGIN];
+        Lent([&margin, bytes, &margin].concat())
+    }
+
+    fn bytes(&mut self) -> &mut [u8] {
+        let end = self.0.len() - MARGIN;
+        &mut self.0[MARGIN..end]
+    }
+
+    fn strayed(&self) -> bool {
+        let end = self.0.len() - MARGIN;
+        self.0[..MARGIN].iter().chain(&self.0[end..]).any(|&b| b != BESIDE)
+    }
+}
+
 pub type StepAnswer = Result<Step, Refusal>;
 
 pub trait Loader {
@@ -87,11 +112,19 @@ pub trait Loader {
     fn step(&self, table: &[u8], position: u64, last_end: u64, index: u64) -> Option<StepAnswer>;
 
     fn outcome(&self, call: &Call) -> Outcome {
-        let mut memory = memory_pattern(call.memory_length);
-        let mut plane = plane_pattern(call.plane_length);
-        let load = self.load(&call.file, call.bias, &mut memory, &mut plane, &call.choices);
+        let mut memory = Lent::new(&memory_pattern(call.memory_length));
+        let mut plane = Lent::new(&plane_pattern(call.plane_length));
+        let load =
+            self.load(&call.file, call.bias, memory.bytes(), plane.bytes(), &call.choices);
         let (examine, facts) = (self.examine(&call.file), self.facts(&call.file));
-        Outcome { load, memory, plane, examine, facts }
+        Outcome {
+            load,
+            strayed: memory.strayed() || plane.strayed(),
+            memory: memory.bytes().to_vec(),
+            plane: plane.bytes().to_vec(),
+            examine,
+            facts,
+        }
     }
 }
 

@@ -25,6 +25,7 @@ pub struct Header {
 }
 
 impl Header {
+    #[inline]
     fn read(bytes: &[u8]) -> Header {
         Header {
             kind: u32_at(bytes, 0),
@@ -49,6 +50,7 @@ pub struct Segment {
 }
 
 impl Segment {
+    #[inline]
     pub fn end(&self) -> u64 {
         self.address + self.memory_size
     }
@@ -66,6 +68,7 @@ pub struct Segments {
 }
 
 impl Segments {
+    #[inline]
     pub fn all(&self) -> &[Segment] {
         &self.list[..self.count]
     }

@@ -1,7 +1,9 @@
 //! A plain loader written from document 01 alone, to be compared with the proved one.
 
 pub mod answers;
+pub mod bench;
 mod bytes;
+pub mod compare;
 pub mod crc;
 mod descriptors;
 mod dynamic;
@@ -35,6 +37,7 @@ pub struct Refusal {
     pub position: u64,
 }
 
+#[inline]
 pub(crate) fn refusal(number: u8, position: u64) -> Refusal {
     Refusal { number, position }
 }

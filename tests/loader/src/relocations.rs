@@ -20,6 +20,7 @@ pub struct Relocation {
 }
 
 impl Relocation {
+    #[inline]
     fn read(entry: &[u8]) -> Relocation {
         Relocation {
             place: u64_at(entry, 0),
@@ -55,6 +56,7 @@ impl<'a> Tables<'a> {
         all.enumerate().filter(|(_, r)| r.kind != NONE)
     }
 
+    #[inline]
     pub fn symbol_address(&self, symbol: u32) -> Option<u128> {
         Some(u128::from(self.symbols?) + u128::from(symbol) * ENTRY as u128)
     }

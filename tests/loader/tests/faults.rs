@@ -7,7 +7,7 @@ use std::panic::{catch_unwind, AssertUnwindSafe};
 
 #[test]
 fn each_is_caught() {
-    let total = count(20_000);
+    let total = count(10_000);
     let mut caught = vec![(0u64, None); FAULTS.len()];
     std::panic::set_hook(Box::new(|_| {}));
     for (i, case) in cases(SEED, total).enumerate() {

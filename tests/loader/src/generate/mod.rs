@@ -211,6 +211,15 @@ pub fn step_case(seed: u64, number: u64) -> StepCase {
         };
         table.extend(module::descriptor(&mut r, distance, granules, false));
     }
+    if r.once_in(8) {
+        // A number of ten bytes, first or second, with the tenth around its limit.
+        table = if r.once_in(2) { vec![8 * r.below(3) as u8] } else { Vec::new() };
+        table.extend([r.pick(&[0x80, 0x81, 0x87, 0xff])]);
+        table.extend([r.pick(&[0x80, 0xff]); 8]);
+        table.extend([r.pick(&[0, 1, 2, 3, 0x7f, 0x80, 0x81]), r.below(3) as u8, 0]);
+        let (last_end, index) = (r.below(9) * 16, r.below(2000));
+        return StepCase { table, position: 0, last_end, index };
+    }
     if r.once_in(3) {
         let count = r.index(24);
         table.extend(noise(&mut r, count));

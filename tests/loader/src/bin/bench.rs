@@ -1,0 +1,56 @@
+//! Times the proved loader beside the Rust one; prints a markdown table.
+//!
+//!     bench [--against archive] [--rounds N]
+
+use loader::bench::{examines, image, loads, Times, SIZES};
+use loader::compare::partner;
+use std::process::ExitCode;
+
+fn row(size: usize, call: &str, [proved, plain]: [Times; 2]) {
+    let micro = |d: std::time::Duration| d.as_nanos() as f64 / 1000.0;
+    println!(
+        "| {} KiB | {call} | {:.1} | {:.1} | {:.1} | {:.1} | {:.2} | {:.2} |",
+        size >> 10,
+        micro(proved.best),
+        micro(proved.median),
+        micro(plain.best),
+        micro(plain.median),
+        micro(proved.best) / micro(plain.best),
+        micro(proved.median) / micro(plain.median),
+    );
+}
+
+fn run(words: &[String]) -> Result<(), String> {
+    let (mut against, mut rounds) = ("archive", 300);
+    for pair in words.chunks(2) {
+        match pair {
+            [name, value] if name == "--against" => against = value,
+            [name, value] if name == "--rounds" => {
+                let number = value.parse().ok().filter(|&n| n > 0);
+                rounds = number.ok_or(format!("not a number of rounds: {value}"))?;
+            }
+            _ => return Err(format!("unknown option {}", pair.join(" "))),
+        }
+    }
+    let loaders = [partner(against)?, partner("self")?];
+    println!("Microseconds, {rounds} rounds in turn; first loader: {against}, second: plain Rust.\n");
+    println!("| image | call | first best | first median | second best | second median | best ratio | median ratio |");
+    println!("|---|---|---|---|---|---|---|---|");
+    for size in SIZES {
+        let call = image(size);
+        row(size, "load", loads(&call, loaders, rounds));
+        row(size, "examine", examines(&call, loaders, rounds));
+    }
+    Ok(())
+}
+
+fn main() -> ExitCode {
+    let words: Vec<String> = std::env::args().skip(1).collect();
+    match run(&words) {
+        Ok(()) => ExitCode::SUCCESS,
+        Err(why) => {
+            eprintln!("{why}");
+            ExitCode::from(2)
+        }
+    }
+}

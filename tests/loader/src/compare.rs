@@ -1,0 +1,166 @@
+//! Two loaders side by side on the vectors and on generated cases.
+
+use crate::answers::{Call, Loader, Outcome, RIGHT};
+use crate::faults::FAULTS;
+use crate::generate::{case, step_case};
+use crate::{ffi, vectors};
+
+/// The loader to compare with, by name: archive, self, or fault: and a fault's name.
+pub fn partner(name: &str) -> Result<&'static dyn Loader, String> {
+    if name == "archive" {
+        let missing = "built without the archive: set HAGOLSTAN_LIB to its folder and build again";
+        return ffi::proved().ok_or(missing.to_owned());
+    }
+    if name == "self" {
+        return Ok(&RIGHT);
+    }
+    let fault = name.strip_prefix("fault:").and_then(|n| FAULTS.iter().find(|f| f.name == n));
+    match fault {
+        Some(fault) => Ok(fault.loader),
+        None => Err(format!("no loader of the name {name}")),
+    }
+}
+
+/// What differs, in words; empty where nothing does.
+pub fn difference(plain: &Outcome, other: &Outcome) -> String {
+    let mut words = Vec::new();
+    let mut numbers = |what: &str, a: u64, b: u64| {
+        if a != b {
+            words.push(format!("{what}: plain {}, other {}", shown(a), shown(b)));
+        }
+    };
+    numbers("load", plain.load, other.load);
+    numbers("examine", plain.examine, other.examine);
+    if plain.facts != other.facts {
+        words.push(format!("facts: plain {:#x}, other {:#x}", plain.facts, other.facts));
+    }
+    for (what, a, b) in
+        [("memory", &plain.memory, &other.memory), ("plane", &plain.plane, &other.plane)]
+    {
+        let count = a.iter().zip(b).filter(|(x, y)| x != y).count();
+        if let Some(at) = (0..a.len()).find(|&i| a[i] != b[i]) {
+            let (x, y) = (a[at], b[at]);
+            words.push(format!("{what}: {count} bytes, first at {at:#x}: plain {x:#04x}, other {y:#04x}"));
+        }
+    }
+    if plain.strayed || other.strayed {
+        words.push("a byte beside the lent buffers was changed".to_owned());
+    }
+    words.join("\n  ")
+}
+
+fn shown(answer: u64) -> String {
+    match answer % 256 {
+        0 => format!("{answer} (taken, {} globals)", answer / 256),
+        number => format!("{answer} (refused {number} at {})", answer / 256),
+    }
+}
+
+pub fn hex(bytes: &[u8]) -> String {
+    bytes.iter().map(|b| format!("{b:02x}")).collect()
+}
+
+pub fn unhex(text: &str) -> Option<Vec<u8>> {
+    let digits = text.len() % 2 == 0 && text.is_ascii();
+    let pairs = (0..text.len()).step_by(2);
+    digits.then(|| pairs.map(|i| u8::from_str_radix(&text[i..i + 2], 16).ok()).collect())?
+}
+
+/// The arguments by which replay runs a call again.
+pub fn replay_line(call: &Call, path: &str, against: &str) -> String {
+    format!(
+        "compare replay {path} --bias {:#x} --memory {} --plane {} --choices '{}' --against '{against}'",
+        call.bias,
+        call.memory_length,
+        call.plane_length,
+        hex(&call.choices),
+    )
+}
+
+pub struct Settings {
+    pub against: String,
+    pub seed: u64,
+    pub first: u64,
+    pub cases: u64,
+    /// Where the file of a differing call is written; a number is put after it.
+    pub dump: String,
+    /// Differences after which the run stops.
+    pub stop: usize,
+}
+
+/// Counts of a run, by refusal number; 0 is taken.
+#[derive(Default)]
+pub struct Counts {
+    pub answers: [u64; 15],
+    pub calls: u64,
+    pub steps: u64,
+    pub different: usize,
+}
+
+struct Run<'a> {
+    settings: &'a Settings,
+    other: &'static dyn Loader,
+    counts: Counts,
+}
+
+impl Run<'_> {
+    fn call(&mut self, name: &str, call: &Call) {
+        let plain = RIGHT.outcome(call);
+        let words = difference(&plain, &self.other.outcome(call));
+        self.counts.answers[usize::from(plain.number())] += 1;
+        self.counts.calls += 1;
+        if words.is_empty() {
+            return;
+        }
+        let path = format!("{}.{}", self.settings.dump, self.counts.different);
+        self.counts.different += 1;
+        println!("different: {name}\n  {words}");
+        println!("  answers: plain {}, other {}", plain.load, self.other.outcome(call).load);
+        match std::fs::write(&path, &call.file) {
+            Ok(()) => println!("  {}", replay_line(call, &path, &self.settings.against)),
+            Err(e) => println!("  {path}: {e}"),
+        }
+    }
+
+    fn step(&mut self, name: &str, table: &[u8], position: u64, last_end: u64, index: u64) {
+        let Some(other) = self.other.step(table, position, last_end, index) else { return };
+        let plain = RIGHT.step(table, position, last_end, index);
+        self.counts.steps += 1;
+        if plain != Some(other) {
+            self.counts.different += 1;
+            println!("different: {name}\n  step({}, {position}, {last_end}, {index})", hex(table));
+            println!("  plain {plain:?}\n  other {other:?}");
+        }
+    }
+
+    fn full(&self) -> bool {
+        self.counts.different >= self.settings.stop
+    }
+}
+
+/// All vectors and the generated cases; stops after a few differences.
+pub fn run(settings: &Settings) -> Result<Counts, String> {
+    let other = partner(&settings.against)?;
+    let mut run = Run { settings, other, counts: Counts::default() };
+    for (i, v) in vectors::loads().iter().enumerate() {
+        if !run.full() {
+            run.call(&format!("vector {i}, {}", v.name), &v.call);
+        }
+    }
+    for (i, v) in vectors::steps().iter().enumerate() {
+        if !run.full() {
+            run.step(&format!("descriptor vector {i}"), &v.table, v.position, v.last_end, v.index);
+        }
+    }
+    for number in settings.first..settings.first + settings.cases {
+        if run.full() {
+            break;
+        }
+        let c = case(settings.seed, number);
+        run.call(&format!("case {number} of seed {:#x}, {}", settings.seed, c.name), &c.call);
+        let s = step_case(settings.seed, number);
+        let name = format!("step {number} of seed {:#x}", settings.seed);
+        run.step(&name, &s.table, s.position, s.last_end, s.index);
+    }
+    Ok(run.counts)
+}

@@ -1,0 +1,106 @@
+//! The bench sheet of document 01.
+
+use loader::answers::Call;
+use loader::{examine, load, step, Facts, Refusal, Step};
+
+const BIAS: u64 = 0x4000_0000;
+const TABLE: [u8; 5] = [0x82, 0x10, 0x10, 0x07, 0x01];
+const TAGS: [u8; 3] = [3, 9, 5];
+const PLACE: u64 = 0x800;
+const RELATIVE: u64 = 1027;
+
+fn put(file: &mut [u8], at: usize, words: &[u64]) {
+    for (i, word) in words.iter().enumerate() {
+        file[at + 8 * i..][..8].copy_from_slice(&word.to_le_bytes());
+    }
+}
+
+/// One writable PT_LOAD from 0 to 0x2000, a descriptor table and relocations (place, info, addend).
+fn module(table: &[u8], relocations: &[(u64, u64, i64)], in_place: u64) -> Vec<u8> {
+    let mut file = vec![0; 0x1000];
+    file[..7].copy_from_slice(&[0x7f, 0x45, 0x4c, 0x46, 2, 1, 1]);
+    put(&mut file, 16, &[3 | 183 << 16 | 1 << 32, 0, 64]);
+    put(&mut file, 48, &[56 << 48, 2]);
+    put(&mut file, 64, &[1 | 6 << 32, 0, 0, 0, 0x1000, 0x2000, 0x1000]);
+    put(&mut file, 120, &[2 | 6 << 32, 0x100, 0x100, 0, 96, 96, 8]);
+    let bytes = 24 * relocations.len() as u64;
+    put(&mut file, 0x100, &[7, 0x200, 8, bytes, 9, 24]);
+    put(&mut file, 0x130, &[0x7000_000d, 0x180, 0x7000_000f, table.len() as u64, 0, 0]);
+    file[0x180..][..table.len()].copy_from_slice(table);
+    for (i, &(place, info, addend)) in relocations.iter().enumerate() {
+        put(&mut file, 0x200 + 24 * i, &[place, info, addend as u64]);
+    }
+    put(&mut file, PLACE as usize, &[in_place]);
+    file
+}
+
+fn call(bias: u64, tags: &[u8], addend: i64, in_place: i64) -> Call {
+    let file = module(&TABLE, &[(PLACE, RELATIVE, addend)], in_place as u64);
+    Call { file, bias, memory_length: 0x2000, plane_length: 0x200, choices: tags.to_vec() }
+}
+
+/// The relocated word.
+fn word(call: &Call) -> Result<u64, Refusal> {
+    let mut memory = vec![0xee; call.memory_length];
+    let mut plane = vec![0xee; call.plane_length];
+    load(&call.file, call.bias, &mut memory, &mut plane, &call.choices)?;
+    Ok(u64::from_le_bytes(memory[PLACE as usize..][..8].try_into().unwrap()))
+}
+
+fn refused<T>(number: u8, position: u64) -> Result<T, Refusal> {
+    Err(Refusal { number, position })
+}
+
+/// Start and granules of all globals.
+fn globals(table: &[u8]) -> Result<Vec<(u64, u64)>, Refusal> {
+    let (mut at, mut last, mut list) = (0, 0, Vec::new());
+    while let Step::Global { start, granules, position, end } =
+        step(table, at, last, list.len() as u64)?
+    {
+        list.push((start, granules));
+        (at, last) = (position, end);
+    }
+    Ok(list)
+}
+
+#[test]
+fn descriptors() {
+    assert_eq!(globals(&TABLE), Ok(vec![(0x1000, 2), (0x1040, 8), (0x10c0, 1)]));
+    assert_eq!(globals(&[7]), Ok(vec![(0, 7)]));
+    assert_eq!(globals(&[0, 7]), Ok(vec![(0, 8)]));
+    assert_eq!(globals(&[0, 0]), Ok(vec![(0, 1)]));
+    assert_eq!(globals(&[0]), refused(8, 0));
+    assert_eq!(globals(&[0x81, 0]), Ok(vec![(0, 1)]));
+    let number = |tenth| [&[0xff; 9][..], &[tenth]].concat();
+    assert_eq!(globals(&number(2)), refused(8, 0));
+    // 2^64 - 1 is read, and lies far outside.
+    assert_eq!(globals(&number(1)), refused(9, 0));
+    assert_eq!(examine(&module(&number(2), &[], 0)), refused(8, 0));
+    assert_eq!(examine(&module(&number(1), &[], 0)), refused(9, 0));
+}
+
+#[test]
+fn facts() {
+    let Facts { globals, words, .. } = examine(&call(BIAS, &TAGS, 0, 0).file).unwrap();
+    assert_eq!((globals, words), (3, 1));
+}
+
+#[test]
+fn words() {
+    assert_eq!(word(&call(BIAS, &TAGS, 0x10c0, -128)), Ok(0x0900_0000_4000_10c0));
+    assert_eq!(word(&call(BIAS, &TAGS, 0x10c0, 0)), Ok(0x0500_0000_4000_10c0));
+    assert_eq!(word(&call(BIAS, &TAGS, 0x10c0, -1)), Ok(0x0900_0000_4000_10c0));
+    assert_eq!(word(&call(BIAS, &TAGS, 0x1020, 0)), Ok(0x0000_0000_4000_1020));
+    assert_eq!(word(&call(0, &TAGS, -1, 0)), refused(13, 0));
+    assert_eq!(word(&call(4096, &TAGS, -4096, 0)), Ok(0));
+    let top = (1 << 48) - 1;
+    assert_eq!(word(&call(BIAS, &TAGS, top - BIAS as i64, 0)), Ok(top as u64));
+    assert_eq!(word(&call(BIAS, &TAGS, top - BIAS as i64 + 1, 0)), refused(13, 0));
+}
+
+#[test]
+fn arguments() {
+    assert_eq!(word(&call(BIAS, &[3, 9, 9], 0, 0)), refused(14, 2));
+    assert!(word(&call(BIAS, &[3, 3, 5], 0, 0)).is_ok());
+    assert_eq!(word(&call(0x4000_0800, &TAGS, 0, 0)), refused(12, 0));
+}

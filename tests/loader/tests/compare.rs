@@ -1,0 +1,58 @@
+//! The programs compare and bench, with Rust loaders in the archive's place.
+
+use std::path::PathBuf;
+use std::process::{Command, Output};
+
+const COMPARE: &str = env!("CARGO_BIN_EXE_compare");
+const BENCH: &str = env!("CARGO_BIN_EXE_bench");
+
+fn run(program: &str, words: &[&str]) -> (Option<i32>, String) {
+    let Output { status, stdout, .. } = Command::new(program).args(words).output().unwrap();
+    (status.code(), String::from_utf8(stdout).unwrap())
+}
+
+#[test]
+fn equal_loaders_are_equal() {
+    let (code, text) = run(COMPARE, &["--against", "self", "--cases", "2000"]);
+    assert_eq!(code, Some(0), "{text}");
+    assert!(text.contains("2700 calls, 2400 descriptor steps"), "{text}");
+    assert!(text.contains("different: 0"), "{text}");
+}
+
+#[test]
+fn a_difference_is_shown_and_replayed() {
+    let dump = PathBuf::from(env!("CARGO_TARGET_TMPDIR")).join("different");
+    let against = "fault:the tag source forgets *P";
+    let words = ["--against", against, "--cases", "500", "--stop", "1", "--dump"];
+    let (code, text) = run(COMPARE, &[&words[..], &[dump.to_str().unwrap()]].concat());
+    assert_eq!(code, Some(1), "{text}");
+    let line = text.lines().find_map(|l| l.trim().strip_prefix("compare ")).unwrap();
+    // Quoted words may hold spaces.
+    let mut again = Vec::new();
+    for (i, part) in line.split('\'').enumerate() {
+        if i % 2 == 1 {
+            again.push(part);
+        } else {
+            again.extend(part.split_whitespace());
+        }
+    }
+    let (code, shown) = run(COMPARE, &again);
+    assert_eq!(code, Some(1), "{shown}");
+    assert!(shown.contains("memory: "), "{shown}");
+    *again.last_mut().unwrap() = "self";
+    assert_eq!(run(COMPARE, &again).0, Some(0));
+}
+
+#[test]
+fn wrong_words_are_told() {
+    assert_eq!(run(COMPARE, &["--against", "nothing"]).0, Some(2));
+    assert_eq!(run(COMPARE, &["replay", "no such file"]).0, Some(2));
+    assert_eq!(run(BENCH, &["--rounds", "0"]).0, Some(2));
+}
+
+#[test]
+fn the_bench_images_are_taken() {
+    let (code, text) = run(BENCH, &["--against", "self", "--rounds", "3"]);
+    assert_eq!(code, Some(0), "{text}");
+    assert_eq!(text.matches("| load |").count(), 3, "{text}");
+}
