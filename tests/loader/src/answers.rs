@@ -106,16 +106,21 @@ pub type StepAnswer = Result<Step, Refusal>;
 pub trait Loader {
     fn examine(&self, file: &[u8]) -> u64;
     fn facts(&self, file: &[u8]) -> u64;
-    fn load(&self, file: &[u8], bias: u64, memory: &mut [u8], plane: &mut [u8], choices: &[u8])
-        -> u64;
+    fn load(
+        &self,
+        file: &[u8],
+        bias: u64,
+        memory: &mut [u8],
+        plane: &mut [u8],
+        choices: &[u8],
+    ) -> u64;
     /// None where the loader has no call for it.
     fn step(&self, table: &[u8], position: u64, last_end: u64, index: u64) -> Option<StepAnswer>;
 
     fn outcome(&self, call: &Call) -> Outcome {
         let mut memory = Lent::new(&memory_pattern(call.memory_length));
         let mut plane = Lent::new(&plane_pattern(call.plane_length));
-        let load =
-            self.load(&call.file, call.bias, memory.bytes(), plane.bytes(), &call.choices);
+        let load = self.load(&call.file, call.bias, memory.bytes(), plane.bytes(), &call.choices);
         let (examine, facts) = (self.examine(&call.file), self.facts(&call.file));
         Outcome {
             load,

@@ -40,7 +40,9 @@ pub fn difference(plain: &Outcome, other: &Outcome) -> String {
         let count = a.iter().zip(b).filter(|(x, y)| x != y).count();
         if let Some(at) = (0..a.len()).find(|&i| a[i] != b[i]) {
             let (x, y) = (a[at], b[at]);
-            words.push(format!("{what}: {count} bytes, first at {at:#x}: plain {x:#04x}, other {y:#04x}"));
+            words.push(format!(
+                "{what}: {count} bytes, first at {at:#x}: plain {x:#04x}, other {y:#04x}"
+            ));
         }
     }
     if plain.strayed || other.strayed {
@@ -61,7 +63,7 @@ pub fn hex(bytes: &[u8]) -> String {
 }
 
 pub fn unhex(text: &str) -> Option<Vec<u8>> {
-    let digits = text.len() % 2 == 0 && text.is_ascii();
+    let digits = text.len().is_multiple_of(2) && text.is_ascii();
     let pairs = (0..text.len()).step_by(2);
     digits.then(|| pairs.map(|i| u8::from_str_radix(&text[i..i + 2], 16).ok()).collect())?
 }

@@ -37,7 +37,7 @@ pub fn step_by<R: Rules>(
     if position > length {
         return Err(refusal(8, index));
     }
-    if last_end % GRANULE != 0 || last_end > ADDRESS_END {
+    if !last_end.is_multiple_of(GRANULE) || last_end > ADDRESS_END {
         return Err(refusal(9, index));
     }
     if position == length {

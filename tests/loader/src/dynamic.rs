@@ -58,7 +58,7 @@ pub struct Dynamic<'a> {
 
 fn good<'a, R: Rules>(header: &Header, file: &'a [u8], segments: &Segments) -> Option<&'a [u8]> {
     let size = header.file_size;
-    if size % 16 != 0 || !(16..=R::DYNAMIC_BYTES).contains(&size) {
+    if !size.is_multiple_of(16) || !(16..=R::DYNAMIC_BYTES).contains(&size) {
         return None;
     }
     let mut entries = segments.backed::<R>(file, header.address.into(), size)?;
@@ -155,8 +155,8 @@ pub fn dynamic<'a, R: Rules>(
     let relocations = table::<R>(file, segments, values[RELA], values[RELASZ])
         .filter(|table| table.len() as u64 / RELA_BYTES <= R::MOST_RELOCATIONS as u64)
         .ok_or(refusal(7, 0))?;
-    let descriptors = table::<R>(file, segments, values[GLOBALS], values[GLOBALSSZ])
-        .ok_or(refusal(7, 1))?;
+    let descriptors =
+        table::<R>(file, segments, values[GLOBALS], values[GLOBALSSZ]).ok_or(refusal(7, 1))?;
     Ok(Dynamic {
         mode: match values[MODE] {
             None => Mode::Absent,

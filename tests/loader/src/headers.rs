@@ -79,7 +79,12 @@ impl Segments {
     }
 
     /// The file's bytes for a range of addresses that is wholly inside one file part.
-    pub fn backed<'a, R: Rules>(&self, file: &'a [u8], address: u128, size: u64) -> Option<&'a [u8]> {
+    pub fn backed<'a, R: Rules>(
+        &self,
+        file: &'a [u8],
+        address: u128,
+        size: u64,
+    ) -> Option<&'a [u8]> {
         let end = address + u128::from(size);
         let within = |s: &&Segment| {
             u128::from(s.address) <= address && end <= u128::from(s.address + R::backing(s))

@@ -48,13 +48,17 @@ impl<'a> Image<'a> {
 
     /// Check 12.
     fn check_fit<R: Rules>(&self, bias: u64, memory: u64, plane: u64) -> Result<(), Refusal> {
-        let good = memory % GRANULE == 0
+        let good = memory.is_multiple_of(GRANULE)
             && R::memory_reaches(memory, self.segments.end())
             && memory <= LARGEST
             && plane == memory / GRANULE
-            && bias % 4096 == 0
+            && bias.is_multiple_of(4096)
             && R::run_fits(bias, memory);
-        if good { Ok(()) } else { Err(refusal(12, 0)) }
+        if good {
+            Ok(())
+        } else {
+            Err(refusal(12, 0))
+        }
     }
 
     /// Check 14.
@@ -65,8 +69,8 @@ impl<'a> Image<'a> {
         let mut before = None;
         let globals = descriptors::globals::<R>(self.dynamic.descriptors);
         for (index, ((start, end), &choice)) in globals.zip(choices).enumerate() {
-            let differs = before
-                .is_none_or(|(last_end, last)| R::differs(choice, last, last_end == start));
+            let differs =
+                before.is_none_or(|(last_end, last)| R::differs(choice, last, last_end == start));
             if !R::choice(choice) || !differs {
                 return Err(refusal(14, index as u64));
             }

@@ -75,7 +75,7 @@ impl<'a> Tables<'a> {
 
     /// Check 11 of the entry with an index.
     fn place_good<R: Rules>(&self, index: usize, place: u64) -> bool {
-        if place % 8 != 0 || !self.segments.all().iter().any(|s| R::place_in(s, place)) {
+        if !place.is_multiple_of(8) || !self.segments.all().iter().any(|s| R::place_in(s, place)) {
             return false;
         }
         for before in self.relocations[..index * ENTRY].chunks_exact(ENTRY) {

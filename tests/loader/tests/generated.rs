@@ -32,7 +32,8 @@ fn answers() {
     }
     println!("taken {}, refused 1 to 14: {:?}", seen[0], &seen[1..]);
     assert!(seen.iter().all(|&n| n > 0));
-    let each = |d: &loader::generate::damage::Damage| names.contains(&format!("{}: {}", d.row, d.name));
+    let each =
+        |d: &loader::generate::damage::Damage| names.contains(&format!("{}: {}", d.row, d.name));
     assert!(total < 20_000 || DAMAGES.iter().all(each));
 }
 

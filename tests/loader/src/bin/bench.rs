@@ -33,7 +33,9 @@ fn run(words: &[String]) -> Result<(), String> {
         }
     }
     let loaders = [partner(against)?, partner("self")?];
-    println!("Microseconds, {rounds} rounds in turn; first loader: {against}, second: plain Rust.\n");
+    println!(
+        "Microseconds, {rounds} rounds in turn; first loader: {against}, second: plain Rust.\n"
+    );
     println!("| image | call | first best | first median | second best | second median | best ratio | median ratio |");
     println!("|---|---|---|---|---|---|---|---|");
     for size in SIZES {

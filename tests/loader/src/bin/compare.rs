@@ -46,7 +46,10 @@ fn replay(path: &str, words: &[String]) -> Result<bool, String> {
     let plain = RIGHT.outcome(&call);
     println!("answers: plain {}, other {}", plain.load, other.load);
     let words = difference(&plain, &other);
-    println!("{}", if words.is_empty() { "equal".to_owned() } else { format!("different\n  {words}") });
+    println!(
+        "{}",
+        if words.is_empty() { "equal".to_owned() } else { format!("different\n  {words}") }
+    );
     Ok(words.is_empty())
 }
 
@@ -71,7 +74,10 @@ fn whole(words: &[String]) -> Result<bool, String> {
         }
     }
     let counts = run(&settings)?;
-    println!("{} calls, {} descriptor steps, against {}", counts.calls, counts.steps, settings.against);
+    println!(
+        "{} calls, {} descriptor steps, against {}",
+        counts.calls, counts.steps, settings.against
+    );
     println!("taken {}", counts.answers[0]);
     for (i, n) in counts.answers.iter().enumerate().skip(1) {
         println!("refused {i}: {n}");

@@ -173,7 +173,7 @@ fn one_global(m: &mut Module, r: &mut Random, start: u64, granules: u64) -> Opti
 fn outside(m: &mut Module, r: &mut Random, start: u64, granules: u64) -> Option<Expected> {
     let end = start + 16 * granules;
     let held = |i: usize| m.headers[i].address <= start && end <= m.headers[i].end();
-    given(start % 16 == 0 && !m.loads().into_iter().any(held))?;
+    given(start.is_multiple_of(16) && !m.loads().into_iter().any(held))?;
     let k = one_global(m, r, start, granules)?;
     refused(9, k)
 }
@@ -194,7 +194,11 @@ fn symbol(m: &mut Module, r: &mut Random, change: fn(&mut Symbol, &mut Random)) 
     m.with_symbol().into_iter().find(|&j| m.symbol_of(j) == s)
 }
 
-fn bad_symbol(m: &mut Module, r: &mut Random, change: fn(&mut Symbol, &mut Random)) -> Option<Expected> {
+fn bad_symbol(
+    m: &mut Module,
+    r: &mut Random,
+    change: fn(&mut Symbol, &mut Random),
+) -> Option<Expected> {
     let i = symbol(m, r, change)?;
     refused(10, i)
 }
@@ -208,13 +212,14 @@ fn symbols_at(m: &mut Module, address: fn(&Module, u64) -> u64) -> Option<Expect
 }
 
 fn holds_place(m: &Module, place: u64) -> bool {
-    m.loads().into_iter().map(|i| &m.headers[i]).any(|h| {
-        h.writable() && h.address <= place && u128::from(place) + 8 <= h.end().into()
-    })
+    m.loads()
+        .into_iter()
+        .map(|i| &m.headers[i])
+        .any(|h| h.writable() && h.address <= place && u128::from(place) + 8 <= h.end().into())
 }
 
 fn place_at(m: &mut Module, r: &mut Random, place: u64) -> Option<Expected> {
-    given(place % 8 != 0 || !holds_place(m, place))?;
+    given(!place.is_multiple_of(8) || !holds_place(m, place))?;
     let i = one(r, &m.live())?;
     m.relocations[i].place = place;
     refused(11, i)
@@ -241,7 +246,11 @@ fn aim(m: &mut Module, r: &mut Random, wanted: i128) -> Option<usize> {
         i128::from(m.bias)
     } else {
         let s = &m.symbols[m.symbol_of(i)];
-        if s.section == 0 { 0 } else { i128::from(m.bias) + i128::from(s.value) }
+        if s.section == 0 {
+            0
+        } else {
+            i128::from(m.bias) + i128::from(s.value)
+        }
     };
     m.relocations[i].addend = i64::try_from(wanted - base).ok()?;
     Some(i)
@@ -351,49 +360,77 @@ pub const DAMAGES: &[Damage] = &[
         m.headers[i].memory_size = m.headers[i].file_size - 1;
         refused(4, i)
     }),
-    damage(4, "memory equals file", |m, _| spare(m, |h, _, _| {
-        h.file_size = h.file_size.max(1);
-        h.memory_size = h.file_size;
-    })),
-    damage(4, "offset one past", |m, r| load(m, r, |h, length| {
-        (h.offset, h.align) = (length - h.file_size + 1, 0);
-    })),
-    damage(4, "offset at the end", |m, _| spare(m, |h, length, _| {
-        h.offset = length - h.file_size;
-    })),
-    damage(4, "offset wraps", |m, r| load(m, r, |h, _| {
-        (h.offset, h.align) = (0u64.wrapping_sub(h.file_size.max(1)), 1);
-    })),
-    damage(4, "file size far", |m, r| load(m, r, |h, _| {
-        h.file_size = 0u64.wrapping_sub(h.offset.max(1));
-    })),
-    damage(4, "empty at the end", |m, _| spare(m, |h, length, _| {
-        (h.offset, h.file_size) = (length, 0);
-    })),
-    damage(4, "empty past the end", |m, _| bad_spare(m, |h, length, _| {
-        (h.offset, h.file_size) = (length + 1, 0);
-    })),
-    damage(4, "ends at the limit", |m, _| spare(m, |h, _, _| {
-        h.address = LARGEST - h.memory_size;
-    })),
-    damage(4, "ends past the limit", |m, _| bad_spare(m, |h, _, _| {
-        h.address = LARGEST - h.memory_size + 1;
-    })),
-    damage(4, "grows to the limit", |m, _| spare(m, |h, _, _| {
-        h.memory_size = LARGEST - h.address;
-    })),
-    damage(4, "grows past the limit", |m, r| load(m, r, |h, _| {
-        h.memory_size = LARGEST - h.address + 1;
-    })),
-    damage(4, "memory size wraps", |m, r| load(m, r, |h, _| {
-        h.memory_size = 0u64.wrapping_sub(h.address.max(1));
-    })),
-    damage(4, "memory size far", |m, r| load(m, r, |h, _| {
-        h.memory_size = u64::MAX;
-    })),
-    damage(4, "address wraps", |m, r| load(m, r, |h, _| {
-        (h.address, h.align) = (0u64.wrapping_sub(h.memory_size), 1);
-    })),
+    damage(4, "memory equals file", |m, _| {
+        spare(m, |h, _, _| {
+            h.file_size = h.file_size.max(1);
+            h.memory_size = h.file_size;
+        })
+    }),
+    damage(4, "offset one past", |m, r| {
+        load(m, r, |h, length| {
+            (h.offset, h.align) = (length - h.file_size + 1, 0);
+        })
+    }),
+    damage(4, "offset at the end", |m, _| {
+        spare(m, |h, length, _| {
+            h.offset = length - h.file_size;
+        })
+    }),
+    damage(4, "offset wraps", |m, r| {
+        load(m, r, |h, _| {
+            (h.offset, h.align) = (0u64.wrapping_sub(h.file_size.max(1)), 1);
+        })
+    }),
+    damage(4, "file size far", |m, r| {
+        load(m, r, |h, _| {
+            h.file_size = 0u64.wrapping_sub(h.offset.max(1));
+        })
+    }),
+    damage(4, "empty at the end", |m, _| {
+        spare(m, |h, length, _| {
+            (h.offset, h.file_size) = (length, 0);
+        })
+    }),
+    damage(4, "empty past the end", |m, _| {
+        bad_spare(m, |h, length, _| {
+            (h.offset, h.file_size) = (length + 1, 0);
+        })
+    }),
+    damage(4, "ends at the limit", |m, _| {
+        spare(m, |h, _, _| {
+            h.address = LARGEST - h.memory_size;
+        })
+    }),
+    damage(4, "ends past the limit", |m, _| {
+        bad_spare(m, |h, _, _| {
+            h.address = LARGEST - h.memory_size + 1;
+        })
+    }),
+    damage(4, "grows to the limit", |m, _| {
+        spare(m, |h, _, _| {
+            h.memory_size = LARGEST - h.address;
+        })
+    }),
+    damage(4, "grows past the limit", |m, r| {
+        load(m, r, |h, _| {
+            h.memory_size = LARGEST - h.address + 1;
+        })
+    }),
+    damage(4, "memory size wraps", |m, r| {
+        load(m, r, |h, _| {
+            h.memory_size = 0u64.wrapping_sub(h.address.max(1));
+        })
+    }),
+    damage(4, "memory size far", |m, r| {
+        load(m, r, |h, _| {
+            h.memory_size = u64::MAX;
+        })
+    }),
+    damage(4, "address wraps", |m, r| {
+        load(m, r, |h, _| {
+            (h.address, h.align) = (0u64.wrapping_sub(h.memory_size), 1);
+        })
+    }),
     damage(4, "starts at the end before", |m, _| spare(m, |h, _, end| h.address = end)),
     damage(4, "starts one before it", |m, _| bad_spare(m, |h, _, end| h.address = end - 1)),
     damage(4, "the one before grows", |m, r| {
@@ -435,7 +472,11 @@ pub const DAMAGES: &[Damage] = &[
         let i = one(r, &m.loads())?;
         let h = &mut m.headers[i];
         h.align = 1 << 63;
-        if h.offset == h.address { Some(Taken) } else { refused(4, i) }
+        if h.offset == h.address {
+            Some(Taken)
+        } else {
+            refused(4, i)
+        }
     }),
     damage(4, "two bad", |m, r| {
         let loads = m.loads();
@@ -453,8 +494,9 @@ pub const DAMAGES: &[Damage] = &[
     }),
     damage(5, "two", |m, r| {
         let first = m.dynamic_header()?;
-        let others: Vec<usize> =
-            (0..m.headers.len()).filter(|&i| ![LOAD, DYNAMIC].contains(&m.headers[i].kind)).collect();
+        let others: Vec<usize> = (0..m.headers.len())
+            .filter(|&i| ![LOAD, DYNAMIC].contains(&m.headers[i].kind))
+            .collect();
         let i = one(r, &others)?;
         m.headers[i].kind = DYNAMIC;
         if r.once_in(3) {
@@ -566,7 +608,11 @@ pub const DAMAGES: &[Damage] = &[
             || has(GLOBALS) != has(GLOBALSSZ)
             || has(RELA) != has(RELASZ)
             || has(RELA) != has(RELAENT);
-        if lone { refused(6, at) } else { Some(Unknown) }
+        if lone {
+            refused(6, at)
+        } else {
+            Some(Unknown)
+        }
     }),
     damage(6, "two bad", |m, r| {
         let (a, b) = (m.free_entry(r)?, m.free_entry(r)?);
@@ -724,18 +770,38 @@ pub const DAMAGES: &[Damage] = &[
         let k = r.from(0, loads.len() as u64 - 1) as usize;
         outside(m, r, m.headers[loads[k]].end().div_ceil(16) * 16, 1)
     }),
-    damage(10, "kind", |m, r| entry(m, r, |e, r| {
-        e.kind = r.pick(&[1, 256, 258, 1024, 1026, 1028, 1032, 0x1_0101, 1 << 31 | 1027, 0x401_0000]);
-    })),
-    damage(10, "RELATIVE with symbol", |m, r| entry(m, r, |e, r| {
-        (e.kind, e.symbol) = (RELATIVE, r.pick(&[1, 2, 1 << 31, u32::MAX]));
-    })),
-    damage(10, "symbol 0", |m, r| entry(m, r, |e, r| {
-        (e.kind, e.symbol) = (r.pick(&[ABS64, GLOB_DAT]), 0);
-    })),
-    damage(10, "symbol far", |m, r| entry(m, r, |e, r| {
-        (e.kind, e.symbol) = (r.pick(&[ABS64, GLOB_DAT]), r.pick(&[u32::MAX, 1 << 31, 1 << 20]));
-    })),
+    damage(10, "kind", |m, r| {
+        entry(m, r, |e, r| {
+            e.kind = r.pick(&[
+                1,
+                256,
+                258,
+                1024,
+                1026,
+                1028,
+                1032,
+                0x1_0101,
+                1 << 31 | 1027,
+                0x401_0000,
+            ]);
+        })
+    }),
+    damage(10, "RELATIVE with symbol", |m, r| {
+        entry(m, r, |e, r| {
+            (e.kind, e.symbol) = (RELATIVE, r.pick(&[1, 2, 1 << 31, u32::MAX]));
+        })
+    }),
+    damage(10, "symbol 0", |m, r| {
+        entry(m, r, |e, r| {
+            (e.kind, e.symbol) = (r.pick(&[ABS64, GLOB_DAT]), 0);
+        })
+    }),
+    damage(10, "symbol far", |m, r| {
+        entry(m, r, |e, r| {
+            (e.kind, e.symbol) =
+                (r.pick(&[ABS64, GLOB_DAT]), r.pick(&[u32::MAX, 1 << 31, 1 << 20]));
+        })
+    }),
     damage(10, "no symbol table", |m, _| {
         let i = m.with_symbol().first().copied()?;
         for tag in [SYMTAB, SYMENT] {
@@ -757,19 +823,27 @@ pub const DAMAGES: &[Damage] = &[
         })
     }),
     damage(10, "symbol address wraps", |m, _| {
-        given(m.symbol_room.address < 24 * u64::from(m.relocations[*m.with_symbol().first()?].symbol))?;
+        given(
+            m.symbol_room.address < 24 * u64::from(m.relocations[*m.with_symbol().first()?].symbol),
+        )?;
         symbols_at(m, |m, symbol| m.symbol_room.address.wrapping_sub(24 * symbol))
     }),
-    damage(10, "symbol table at 2^64", |m, _| symbols_at(m, |_, symbol| 0u64.wrapping_sub(24 * symbol))),
+    damage(10, "symbol table at 2^64", |m, _| {
+        symbols_at(m, |_, symbol| 0u64.wrapping_sub(24 * symbol))
+    }),
     damage(10, "type", |m, r| bad_symbol(m, r, |s, r| s.info = s.info & 0xf0 | r.pick(&[6, 10]))),
     damage(10, "types beside", |m, r| {
         symbol(m, r, |s, r| s.info = s.info & 0xf0 | r.pick(&[5, 7, 9, 11, 2, 14]))?;
         Some(Taken)
     }),
-    damage(10, "section", |m, r| bad_symbol(m, r, |s, r| s.section = r.pick(&[0xff00, 0xff01, 0xfff1, 0xffff]))),
-    damage(10, "weak section", |m, r| bad_symbol(m, r, |s, r| {
-        (s.info, s.section) = (0x21, r.pick(&[0xff00, 0xfff1, 0xffff]));
-    })),
+    damage(10, "section", |m, r| {
+        bad_symbol(m, r, |s, r| s.section = r.pick(&[0xff00, 0xff01, 0xfff1, 0xffff]))
+    }),
+    damage(10, "weak section", |m, r| {
+        bad_symbol(m, r, |s, r| {
+            (s.info, s.section) = (0x21, r.pick(&[0xff00, 0xfff1, 0xffff]));
+        })
+    }),
     damage(10, "section beside", |m, r| {
         let i = one(r, &m.with_symbol())?;
         let s = m.symbol_of(i);
@@ -777,12 +851,16 @@ pub const DAMAGES: &[Damage] = &[
         m.symbols[s].section = r.pick(&[0xfeff, 1, 0xfe00]);
         Some(Taken)
     }),
-    damage(10, "undefined", |m, r| bad_symbol(m, r, |s, r| {
-        (s.info, s.section) = (r.pick(&[0, 1, 3, 10, 15, 6, 12]) << 4 | s.info & 15, 0);
-    })),
-    damage(10, "weak undefined of a bad type", |m, r| bad_symbol(m, r, |s, r| {
-        (s.info, s.section) = (0x20 | r.pick(&[6, 10]), 0);
-    })),
+    damage(10, "undefined", |m, r| {
+        bad_symbol(m, r, |s, r| {
+            (s.info, s.section) = (r.pick(&[0, 1, 3, 10, 15, 6, 12]) << 4 | s.info & 15, 0);
+        })
+    }),
+    damage(10, "weak undefined of a bad type", |m, r| {
+        bad_symbol(m, r, |s, r| {
+            (s.info, s.section) = (0x20 | r.pick(&[6, 10]), 0);
+        })
+    }),
     damage(10, "skipped unread", |m, r| {
         let i = one(r, &m.live())?;
         let (place, symbol, addend) = (r.edge(), r.word() as u32, r.edge() as i64);
@@ -909,7 +987,8 @@ pub const DAMAGES: &[Damage] = &[
     }),
     damage(12, "bias wraps", |m, r| {
         let pages = m.memory.div_ceil(4096);
-        m.bias = r.pick(&[0u64.wrapping_sub(4096), 0u64.wrapping_sub(pages * 4096), 1 << 63, 1 << 48]);
+        m.bias =
+            r.pick(&[0u64.wrapping_sub(4096), 0u64.wrapping_sub(pages * 4096), 1 << 63, 1 << 48]);
         Some(FIT)
     }),
     damage(13, "address -1", |m, r| missed(m, r, -1)),
@@ -939,8 +1018,11 @@ pub const DAMAGES: &[Damage] = &[
         refused(13, i)
     }),
     damage(13, "weak undefined below 0", |m, r| {
-        let weak: Vec<usize> =
-            m.with_symbol().into_iter().filter(|&i| m.symbols[m.symbol_of(i)].section == 0).collect();
+        let weak: Vec<usize> = m
+            .with_symbol()
+            .into_iter()
+            .filter(|&i| m.symbols[m.symbol_of(i)].section == 0)
+            .collect();
         let i = one(r, &weak)?;
         m.relocations[i].addend = r.pick(&[-1, -4096, 1 << 48, i64::MIN]);
         refused(13, i)
@@ -988,7 +1070,8 @@ pub const DAMAGES: &[Damage] = &[
         Some(Taken)
     }),
     damage(14, "same as abutting", |m, r| {
-        let abut: Vec<usize> = (1..m.choices.len().min(m.globals.len())).filter(|&i| m.abuts(i)).collect();
+        let abut: Vec<usize> =
+            (1..m.choices.len().min(m.globals.len())).filter(|&i| m.abuts(i)).collect();
         let k = one(r, &abut)?;
         m.choices[k] = m.choices[k - 1];
         refused(14, k)

@@ -98,8 +98,7 @@ fn double(r: &mut Random) -> Case {
         if !refuses(first) || !refuses(second) {
             continue;
         }
-        let expected =
-            if stage(early.row) < stage(late.row) { first } else { Expected::Unknown };
+        let expected = if stage(early.row) < stage(late.row) { first } else { Expected::Unknown };
         let name = format!("{} + {}", label(early), label(late));
         return Case { name, call: module.call(), expected };
     }
@@ -114,12 +113,8 @@ fn blind(r: &mut Random) -> Case {
     }
     let mut call = module.call();
     let length = call.file.len();
-    let rooms = [
-        module.dynamic_room,
-        module.descriptor_room,
-        module.symbol_room,
-        module.relocation_room,
-    ];
+    let rooms =
+        [module.dynamic_room, module.descriptor_room, module.symbol_room, module.relocation_room];
     let name = match r.below(7) {
         0 => {
             for _ in 0..r.from(1, 4) {
@@ -242,5 +237,10 @@ pub fn step_case(seed: u64, number: u64) -> StepCase {
         3 => 0,
         _ => r.below(1 << 17) * 16,
     };
-    StepCase { table, position, last_end, index: if r.once_in(2) { r.below(2000) } else { r.edge() } }
+    StepCase {
+        table,
+        position,
+        last_end,
+        index: if r.once_in(2) { r.below(2000) } else { r.edge() },
+    }
 }

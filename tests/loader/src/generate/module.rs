@@ -26,8 +26,24 @@ pub const KNOWN: [u64; 10] =
 
 /// Tags that are passed over.
 pub const PASSED: [u64; 18] = [
-    1, 2, 5, 10, 14, 18, 19, 20, 24, 25, 30, 35, 37, 0x6fff_fffb, 0x7000_000a, 0x7000_000e,
-    (1 << 32) + 7, (1 << 32) + 17,
+    1,
+    2,
+    5,
+    10,
+    14,
+    18,
+    19,
+    20,
+    24,
+    25,
+    30,
+    35,
+    37,
+    0x6fff_fffb,
+    0x7000_000a,
+    0x7000_000e,
+    (1 << 32) + 7,
+    (1 << 32) + 17,
 ];
 
 #[derive(Clone, Default)]
@@ -184,7 +200,13 @@ fn globals(r: &mut Random, loads: &[&Header], count: usize, short: bool) -> Vec<
             if room == 0 {
                 break;
             }
-            let most = if short { 1 } else if r.once_in(20) { room } else { room.min(12) };
+            let most = if short {
+                1
+            } else if r.once_in(20) {
+                room
+            } else {
+                room.min(12)
+            };
             let granules = r.from(1, most);
             list.push(Global { start: at + gap, granules });
             at += gap + granules * 16;
@@ -201,9 +223,8 @@ impl Module {
     pub fn shaped(r: &mut Random, shape: &Shape) -> Module {
         let loads = shape.loads.unwrap_or_else(|| r.from(1, 5) as usize);
         let spare = shape.spare.unwrap_or_else(|| r.once_in(3));
-        let count = shape.headers.unwrap_or_else(|| {
-            loads + 1 + usize::from(spare) + r.below(4) as usize
-        });
+        let count =
+            shape.headers.unwrap_or_else(|| loads + 1 + usize::from(spare) + r.below(4) as usize);
         let wanted_globals = shape.globals.unwrap_or_else(|| r.below(12) as usize);
         let wanted_relocations = shape.relocations.unwrap_or_else(|| r.below(14) as usize);
         let symbols = if shape.relocations.is_none() && r.once_in(6) { 0 } else { r.from(2, 9) };
@@ -247,8 +268,12 @@ impl Module {
                     if !r.once_in(4) {
                         inner = up(address + inner, 8) - address;
                     }
-                    rooms[chunk] =
-                        Room { load: i, address: address + inner, offset: offset + inner, size: sizes[chunk] };
+                    rooms[chunk] = Room {
+                        load: i,
+                        address: address + inner,
+                        offset: offset + inner,
+                        size: sizes[chunk],
+                    };
                     inner += sizes[chunk];
                 } else {
                     inner += r.below(40) * r.pick(&[8, 8, 8, 1, 0]);
@@ -458,7 +483,11 @@ impl Module {
             list.extend([(GLOBALS, address), (GLOBALSSZ, size)]);
         }
         let last = entries - 1;
-        let before = if null_last || r.once_in(2) { last } else { r.from(list.len() as u64, last as u64) as usize };
+        let before = if null_last || r.once_in(2) {
+            last
+        } else {
+            r.from(list.len() as u64, last as u64) as usize
+        };
         while list.len() < before {
             let again = list.iter().rev().find(|e| !KNOWN.contains(&e.0)).copied();
             match again {
@@ -527,7 +556,11 @@ impl Module {
             let at = r.index(self.symbols.len());
             entry.symbol = self.symbol_base + at as u32;
             let symbol = &self.symbols[at];
-            let base = if symbol.section == 0 { 0 } else { i128::from(self.bias) + i128::from(symbol.value) };
+            let base = if symbol.section == 0 {
+                0
+            } else {
+                i128::from(self.bias) + i128::from(symbol.value)
+            };
             let near = base + i128::from(r.below(128)) - 64;
             let wanted = if r.once_in(6) || !(0..1 << 48).contains(&near) {
                 let top = ADDRESS_END - 1;
@@ -651,7 +684,12 @@ impl Module {
         let mut last_end = 0;
         let mut bytes = Vec::new();
         for g in &self.globals[..count] {
-            bytes.extend(descriptor(&mut Random::new(0), (g.start - last_end) / 16, g.granules, true));
+            bytes.extend(descriptor(
+                &mut Random::new(0),
+                (g.start - last_end) / 16,
+                g.granules,
+                true,
+            ));
             last_end = g.end();
         }
         bytes
@@ -682,9 +720,11 @@ impl Module {
     pub fn call(&self) -> Call {
         let mut file = self.filler.clone();
         for &(place, word) in &self.words {
-            let home = self.used_loads().into_iter().map(|i| &self.headers[i]).find(|h| {
-                h.address <= place && place < h.address.saturating_add(h.file_size)
-            });
+            let home = self
+                .used_loads()
+                .into_iter()
+                .map(|i| &self.headers[i])
+                .find(|h| h.address <= place && place < h.address.saturating_add(h.file_size));
             if let Some(home) = home {
                 let size = (home.address + home.file_size - place).min(8) as usize;
                 let at = home.offset.wrapping_add(place - home.address) as usize;
