@@ -132,8 +132,25 @@ faults! {
         }
     }
     MemoryBacks "the memory part backs tables" {
-        fn backing(segment: &Segment) -> u64 {
-            segment.memory_size
+        fn backing_end(_: &[Segment], segment: &Segment) -> u64 {
+            segment.end()
+        }
+    }
+    LoadsBack "abutting file parts back a table together" {
+        fn backing_end(all: &[Segment], segment: &Segment) -> u64 {
+            all.iter().fold(segment.address + segment.file_size, |end, next| {
+                end + if next.address == end { next.file_size } else { 0 }
+            })
+        }
+    }
+    SkippedCounted "skipped entries count as words" {
+        fn words(_: u64, entries: u64) -> u64 {
+            entries
+        }
+    }
+    ChoicesNamed "14 names the number of choices" {
+        fn wrong_number(_: u64, choices: u64) -> u64 {
+            choices
         }
     }
     FirstDynamic "two PT_DYNAMICs name the first" {

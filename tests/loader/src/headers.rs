@@ -87,7 +87,7 @@ impl Segments {
     ) -> Option<&'a [u8]> {
         let end = address + u128::from(size);
         let within = |s: &&Segment| {
-            u128::from(s.address) <= address && end <= u128::from(s.address + R::backing(s))
+            u128::from(s.address) <= address && end <= R::backing_end(self.all(), s).into()
         };
         let segment = self.all().iter().find(within)?;
         let at = segment.offset as usize + (address as u64 - segment.address) as usize;

@@ -64,7 +64,7 @@ impl<'a> Image<'a> {
     /// Check 14.
     fn check_choices<R: Rules>(&self, choices: &[u8]) -> Result<(), Refusal> {
         if choices.len() as u64 != self.globals {
-            return Err(refusal(14, self.globals));
+            return Err(refusal(14, R::wrong_number(self.globals, choices.len() as u64)));
         }
         let mut before = None;
         let globals = descriptors::globals::<R>(self.dynamic.descriptors);

@@ -101,7 +101,7 @@ impl<'a> Tables<'a> {
             }
             words += 1;
         }
-        Ok(words)
+        Ok(R::words(words, (self.relocations.len() / ENTRY) as u64))
     }
 
     /// Check 13.

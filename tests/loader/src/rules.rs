@@ -30,9 +30,9 @@ pub trait Rules {
         Self::sum(offset, file_size) <= u128::from(length)
     }
 
-    /// The part of a segment that can back a table.
-    fn backing(segment: &Segment) -> u64 {
-        segment.file_size
+    /// Where the part of a segment ends that can back a table.
+    fn backing_end(_all: &[Segment], segment: &Segment) -> u64 {
+        segment.address + segment.file_size
     }
 
     /// 5: which header is named when there are two PT_DYNAMICs.
@@ -113,6 +113,11 @@ pub trait Rules {
         kind_before != 0 && place_before == place
     }
 
+    /// Words relocated are the entries not skipped.
+    fn words(relocated: u64, _entries: u64) -> u64 {
+        relocated
+    }
+
     /// 12: memory length against the end of the last PT_LOAD.
     fn memory_reaches(length: u64, end: u64) -> bool {
         length >= end
@@ -129,6 +134,11 @@ pub trait Rules {
     /// 13: addresses that a word can hold.
     fn address_fits(address: i128) -> bool {
         (0..i128::from(ADDRESS_END)).contains(&address)
+    }
+
+    /// 14: the position of a wrong number of choices.
+    fn wrong_number(globals: u64, _choices: u64) -> u64 {
+        globals
     }
 
     /// 14: a choice on its own.
