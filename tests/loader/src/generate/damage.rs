@@ -56,9 +56,10 @@ fn spare(m: &mut Module, change: fn(&mut Header, u64, u64)) -> Option<Expected> 
     let used = m.used_loads();
     let end_before = m.headers[*used.last()?].end();
     change(&mut m.headers[i], length, end_before);
+    given(m.last_end() <= LARGEST)?;
     m.memory = m.memory.max(m.last_end().div_ceil(16) * 16);
     m.plane = m.memory / 16;
-    given(m.bias + m.memory <= ADDRESS_END)?;
+    given(m.bias.saturating_add(m.memory) <= ADDRESS_END)?;
     Some(Taken)
 }
 
@@ -120,7 +121,7 @@ fn table(
 }
 
 fn last_byte_out(load: &Header, size: u64) -> (u64, u64) {
-    (load.file_end() + 1 - size, size)
+    ((load.file_end() + 1).wrapping_sub(size), size)
 }
 
 fn first_byte_out(load: &Header, size: u64) -> (u64, u64) {
@@ -276,7 +277,7 @@ fn choice(m: &mut Module, r: &mut Random, bad: &[u8]) -> Option<Expected> {
 fn sized(m: &mut Module, memory: u64, expected: Expected) -> Option<Expected> {
     m.memory = memory;
     m.plane = memory / 16;
-    given(expected != Taken || m.bias + memory <= ADDRESS_END)?;
+    given(expected != Taken || m.bias.saturating_add(memory) <= ADDRESS_END)?;
     Some(expected)
 }
 
@@ -368,12 +369,12 @@ pub const DAMAGES: &[Damage] = &[
     }),
     damage(4, "offset one past", |m, r| {
         load(m, r, |h, length| {
-            (h.offset, h.align) = (length - h.file_size + 1, 0);
+            (h.offset, h.align) = (length.wrapping_sub(h.file_size).wrapping_add(1), 0);
         })
     }),
     damage(4, "offset at the end", |m, _| {
         spare(m, |h, length, _| {
-            h.offset = length - h.file_size;
+            h.offset = length.wrapping_sub(h.file_size);
         })
     }),
     damage(4, "offset wraps", |m, r| {
@@ -398,22 +399,22 @@ pub const DAMAGES: &[Damage] = &[
     }),
     damage(4, "ends at the limit", |m, _| {
         spare(m, |h, _, _| {
-            h.address = LARGEST - h.memory_size;
+            h.address = LARGEST.wrapping_sub(h.memory_size);
         })
     }),
     damage(4, "ends past the limit", |m, _| {
         bad_spare(m, |h, _, _| {
-            h.address = LARGEST - h.memory_size + 1;
+            h.address = LARGEST.wrapping_sub(h.memory_size).wrapping_add(1);
         })
     }),
     damage(4, "grows to the limit", |m, _| {
         spare(m, |h, _, _| {
-            h.memory_size = LARGEST - h.address;
+            h.memory_size = LARGEST.wrapping_sub(h.address);
         })
     }),
     damage(4, "grows past the limit", |m, r| {
         load(m, r, |h, _| {
-            h.memory_size = LARGEST - h.address + 1;
+            h.memory_size = LARGEST.wrapping_sub(h.address).wrapping_add(1);
         })
     }),
     damage(4, "memory size wraps", |m, r| {
@@ -432,13 +433,16 @@ pub const DAMAGES: &[Damage] = &[
         })
     }),
     damage(4, "starts at the end before", |m, _| spare(m, |h, _, end| h.address = end)),
-    damage(4, "starts one before it", |m, _| bad_spare(m, |h, _, end| h.address = end - 1)),
+    damage(4, "starts one before it", |m, _| {
+        bad_spare(m, |h, _, end| h.address = end.wrapping_sub(1))
+    }),
     damage(4, "the one before grows", |m, r| {
         let loads = m.loads();
         given(loads.len() > 1)?;
         let k = r.from(1, loads.len() as u64 - 1) as usize;
         let before = loads[k - 1];
-        m.headers[before].memory_size = m.headers[loads[k]].address - m.headers[before].address + 1;
+        m.headers[before].memory_size =
+            (m.headers[loads[k]].address + 1).wrapping_sub(m.headers[before].address);
         refused(4, loads[k])
     }),
     damage(4, "order swapped", |m, r| {
@@ -531,8 +535,10 @@ pub const DAMAGES: &[Damage] = &[
     damage(5, "address wraps", |m, _| dynamic(m, |h| h.address = 0u64.wrapping_sub(h.file_size))),
     damage(5, "address far", |m, _| dynamic(m, |h| h.address |= 1 << 63)),
     damage(5, "size 0", |m, _| dynamic(m, |h| h.file_size = 0)),
-    damage(5, "size not a multiple", |m, _| dynamic(m, |h| h.file_size -= 1)),
-    damage(5, "size 8 off", |m, _| dynamic(m, |h| h.file_size -= 8)),
+    damage(5, "size not a multiple", |m, _| {
+        dynamic(m, |h| h.file_size = h.file_size.wrapping_sub(1))
+    }),
+    damage(5, "size 8 off", |m, _| dynamic(m, |h| h.file_size = h.file_size.wrapping_sub(8))),
     damage(5, "size far", |m, _| dynamic(m, |h| h.file_size = 0u64.wrapping_sub(16))),
     damage(5, "no entry 0", |m, _| {
         let i = m.dynamic_header()?;
@@ -925,7 +931,8 @@ pub const DAMAGES: &[Damage] = &[
     damage(11, "load made read-only", |m, r| {
         let i = one(r, &m.live())?;
         let place = m.relocations[i].place;
-        let within = |h: &Header, p: u64| h.kind == LOAD && h.address <= p && p + 8 <= h.end();
+        let within =
+            |h: &Header, p: u64| h.kind == LOAD && h.address <= p && p.saturating_add(8) <= h.end();
         let at = m.headers.iter().position(|h| within(h, place))?;
         m.headers[at].flags &= !2;
         let home = m.headers[at].clone();
@@ -963,7 +970,7 @@ pub const DAMAGES: &[Damage] = &[
     }),
     damage(12, "no memory", |m, _| sized(m, 0, FIT)),
     damage(12, "plane", |m, r| {
-        m.plane = r.pick(&[m.plane - 1, m.plane + 1, 0, m.plane * 2, m.memory]);
+        m.plane = r.pick(&[m.plane.saturating_sub(1), m.plane + 1, 0, m.plane * 2, m.memory]);
         Some(FIT)
     }),
     damage(12, "bias not a multiple", |m, r| {

@@ -59,11 +59,11 @@ pub struct Header {
 
 impl Header {
     pub fn end(&self) -> u64 {
-        self.address + self.memory_size
+        self.address.saturating_add(self.memory_size)
     }
 
     pub fn file_end(&self) -> u64 {
-        self.address + self.file_size
+        self.address.saturating_add(self.file_size)
     }
 
     pub fn writable(&self) -> bool {
@@ -724,9 +724,9 @@ impl Module {
                 .used_loads()
                 .into_iter()
                 .map(|i| &self.headers[i])
-                .find(|h| h.address <= place && place < h.address.saturating_add(h.file_size));
+                .find(|h| h.address <= place && place < h.file_end());
             if let Some(home) = home {
-                let size = (home.address + home.file_size - place).min(8) as usize;
+                let size = (home.file_end() - place).min(8) as usize;
                 let at = home.offset.wrapping_add(place - home.address) as usize;
                 Module::put(&mut file, at, &word.to_le_bytes()[..size]);
             }
