@@ -86,10 +86,7 @@ impl<'a> Image<'a> {
         }
         for segment in self.segments.all() {
             let bytes = segment.contents(self.file);
-            if let Some(room) = memory.get_mut(segment.address as usize..) {
-                let size = bytes.len().min(room.len());
-                room[..size].copy_from_slice(&bytes[..size]);
-            }
+            memory[segment.address as usize..][..bytes.len()].copy_from_slice(bytes);
         }
     }
 
@@ -100,10 +97,7 @@ impl<'a> Image<'a> {
         }
         let globals = descriptors::globals::<R>(self.dynamic.descriptors);
         for ((start, end), &choice) in globals.zip(choices) {
-            let granules = (start / GRANULE) as usize..(end / GRANULE) as usize;
-            if let Some(granules) = plane.get_mut(granules) {
-                granules.fill(choice);
-            }
+            plane[(start / GRANULE) as usize..(end / GRANULE) as usize].fill(choice);
         }
     }
 
@@ -116,9 +110,6 @@ impl<'a> Image<'a> {
                 target = target_of::<R>(&memory[at..at + ENTRY]).unwrap_or(target);
             }
             let place = entry.place as usize;
-            if place + 8 > memory.len() {
-                continue;
-            }
             let source = source::<R>(target, bias, entry.addend, u64_at(memory, place));
             let tag = match source {
                 Some(source) => tag_at(plane, source, bias),

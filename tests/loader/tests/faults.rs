@@ -8,26 +8,28 @@ use std::panic::{catch_unwind, AssertUnwindSafe};
 #[test]
 fn each_is_caught() {
     let total = count(10_000);
-    let mut caught = vec![(0u64, None); FAULTS.len()];
+    let mut caught = vec![(0u64, 0u64, None); FAULTS.len()];
     std::panic::set_hook(Box::new(|_| {}));
     for (i, case) in cases(SEED, total).enumerate() {
         let right: Outcome = RIGHT.outcome(&case.call);
-        for (fault, (times, first)) in FAULTS.iter().zip(&mut caught) {
-            // A wrong loader that stops is told apart as well.
-            let wrong = catch_unwind(AssertUnwindSafe(|| fault.loader.outcome(&case.call)));
-            if wrong.ok().as_ref() != Some(&right) {
-                *times += 1;
-                first.get_or_insert(format!("case {i}, {}", case.name));
+        for (fault, (times, stops, first)) in FAULTS.iter().zip(&mut caught) {
+            // A wrong loader that stops is told apart as well, but counted on its own.
+            match catch_unwind(AssertUnwindSafe(|| fault.loader.outcome(&case.call))) {
+                Ok(wrong) if wrong == right => continue,
+                Ok(_) => *times += 1,
+                Err(_) => *stops += 1,
             }
+            first.get_or_insert(format!("case {i}, {}", case.name));
         }
     }
     let _ = std::panic::take_hook();
-    for (fault, (times, first)) in FAULTS.iter().zip(&caught) {
-        println!("{times:6}  {:45} {}", fault.name, first.as_deref().unwrap_or("-"));
+    println!("differs  stops");
+    for (fault, (times, stops, first)) in FAULTS.iter().zip(&caught) {
+        println!("{times:7} {stops:6}  {:45} {}", fault.name, first.as_deref().unwrap_or("-"));
     }
     println!("{} faults, {total} cases", FAULTS.len());
-    for (fault, (times, _)) in FAULTS.iter().zip(&caught) {
-        assert!(*times > 0, "not caught: {}", fault.name);
+    for (fault, (times, stops, _)) in FAULTS.iter().zip(&caught) {
+        assert!(times + stops > 0, "not caught: {}", fault.name);
     }
 }
 
