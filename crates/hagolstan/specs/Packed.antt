@@ -1,7 +1,12 @@
 -- What the exported calls answer: one 64-bit number.
 -- Assumes nothing.
 use Prim.Native.Nat.{ℕ, _+_, _*_, _^_}
+use mathlib.Core.List.{List}
 use Rattle.rules.specs.Outcome.{Outcome, good, bad}
+use Rattle.rules.specs.Descriptors.{Read, finished, global}
+use Rattle.rules.specs.Memory.{putWord}
+use Rattle.rules.specs.declared.Global.{Global}
+use Rattle.rules.specs.declared.Cursor.{Cursor}
 use Rattle.rules.specs.declared.Refusal.{Refusal}
 use Rattle.rules.specs.declared.Facts.{Facts}
 use Rattle.rules.specs.declared.Mode.{Mode}
@@ -39,3 +44,16 @@ factsNumber a =
 abbrev pub packedFacts : Outcome Facts → ℕ
 packedFacts (good a) = factsNumber a
 packedFacts (bad r) = 0
+
+-- reading one descriptor: 0 finished, 1 a global, or the refusal number
+abbrev pub stepNumber : Outcome Read → ℕ
+stepNumber (good finished) = 0
+stepNumber (good (global g c)) = 1
+stepNumber (bad r) = r .number
+
+-- the words that it writes: a global's start and granules and the moved cursor, or the position of a refusal
+abbrev pub stepWords : Outcome Read → List ℕ → List ℕ
+stepWords (good finished) lent = lent
+stepWords (good (global g c)) lent =
+    putWord (putWord (putWord (putWord lent 0 (g .start)) 8 (g .granules)) 16 (c .position)) 24 (c .end)
+stepWords (bad r) lent = putWord lent 0 (r .position)

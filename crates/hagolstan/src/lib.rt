@@ -4,12 +4,15 @@ ghost use Prim.Native.Nat.{_≤_};
 ghost use Rattle.rules.specs.Examine.{examinedOf};
 ghost use lib.ListN.{length};
 ghost use Rattle.rules.specs.Load.{loadOf, memoryAfter, planeAfter};
+ghost use Rattle.rules.specs.Descriptors.{stepAt};
 ghost use Rattle.load.specs.Stages.{factsAfter};
-ghost use Rattle.hagolstan.specs.Packed.{packedRefusal, packed, modeNumber, switchNumber, factsNumber, packedFacts};
+ghost use Rattle.hagolstan.specs.Packed.{packedRefusal, packed, modeNumber, switchNumber, factsNumber, packedFacts, stepNumber, stepWords};
 use rules::Answer;
+use rules::Cursor;
 use rules::Facts;
 use rules::Mode;
 use rules::Refusal;
+use rules::Step;
 use rules::Switch;
 
 // A refusal as one number.
@@ -102,4 +105,38 @@ pub extern "C" fn hagolstan_load(
         return pack_refusal(r);
     };
     (a.globals as u64) * 256
+}
+
+// Reads one descriptor of a table: 0 finished, 1 a global, or the refusal number. Its words go to the lent bytes.
+#[no_mangle]
+pub extern "C" fn hagolstan_step(
+    table: &[u8],
+    position: u64,
+    end: u64,
+    index: u64,
+    words: &mut [u8],
+) -> u64
+    ensures answered { λ v. ⌜ v ≡ stepNumber (stepAt index (now (table .entry)) (record { position = position; end = end })) ⌝ }
+    ensures written { λ _. ⌜ now (words .exit) ≡ stepWords (stepAt index (now (table .entry)) (record { position = position; end = end })) (now (words .entry)) ⌝ }
+{
+    let cursor = Cursor {
+        position: position,
+        end: end,
+    };
+    let step = cursor.step(table, index);
+    if let Step::Finished = step {
+        return 0;
+    }
+    let Step::Global(g, next) = step else {
+        let Step::Refused(r) = step else {
+            return 0;
+        };
+        memory::put64(words, 0, r.position);
+        return r.number as u64;
+    };
+    memory::put64(words, 0, g.start);
+    memory::put64(words, 8, g.granules);
+    memory::put64(words, 16, next.position);
+    memory::put64(words, 24, next.end);
+    1
 }
