@@ -5,7 +5,7 @@
  * length 0 is not read or written and may be null; a null pointer with another length is an error of the
  * caller. The calls may be made from several threads at once on buffers that are not shared.
  *
- * An answer is one 64-bit number:
+ * The answer of examine and of the load is one 64-bit number:
  *   taken:    globals * 256
  *   refused:  position * 256 + refusal number (1 to 14)
  * so the low byte of an answer is 0 exactly when the call was taken.
@@ -40,6 +40,15 @@ uint64_t hagolstan_load(const uint8_t *file, size_t file_length, uint64_t bias,
                         uint8_t *memory, size_t memory_length,
                         uint8_t *plane, size_t plane_length,
                         const uint8_t *choices, size_t choices_length);
+
+/* Reads one global descriptor of a table, from a position and the last global's end (both 0 at the start).
+ *   0         finished: the position is the table's end; words stay as lent
+ *   1         a global: words hold its start, its granules of 16 bytes, the next position and its end,
+ *             eight little-endian bytes each
+ *   8, 9      refused: the first word holds the position to report, which is the index handed in
+ * Only what fits into words_length bytes is written; 32 hold all. */
+uint64_t hagolstan_step(const uint8_t *table, size_t table_length, uint64_t position, uint64_t end,
+                        uint64_t index, uint8_t *words, size_t words_length);
 
 /* An answer taken apart. */
 #define HAGOLSTAN_REFUSAL(answer) ((unsigned)((answer) & 0xff))      /* 0: taken */

@@ -5,6 +5,8 @@ use crate::answers::Loader;
 #[cfg(archive)]
 mod archive {
     use crate::answers::{Loader, StepAnswer};
+    use crate::descriptors::Step;
+    use crate::Refusal;
 
     #[link(name = "hagolstan", kind = "static")]
     extern "C" {
@@ -20,6 +22,15 @@ mod archive {
             plane_length: usize,
             choices: *const u8,
             choices_length: usize,
+        ) -> u64;
+        fn hagolstan_step(
+            table: *const u8,
+            table_length: usize,
+            position: u64,
+            end: u64,
+            index: u64,
+            words: *mut u8,
+            words_length: usize,
         ) -> u64;
     }
 
@@ -60,8 +71,31 @@ mod archive {
             }
         }
 
-        fn step(&self, _: &[u8], _: u64, _: u64, _: u64) -> Option<StepAnswer> {
-            None
+        fn step(&self, table: &[u8], position: u64, end: u64, index: u64) -> Option<StepAnswer> {
+            let mut words = [0u8; 32];
+            // SAFETY: the call reads the table, writes the 32 bytes at most, and keeps no pointer.
+            let answer = unsafe {
+                hagolstan_step(
+                    table.as_ptr(),
+                    table.len(),
+                    position,
+                    end,
+                    index,
+                    words.as_mut_ptr(),
+                    words.len(),
+                )
+            };
+            let word = |i: usize| u64::from_le_bytes(words[8 * i..8 * i + 8].try_into().unwrap());
+            Some(match answer {
+                0 => Ok(Step::Finished),
+                1 => Ok(Step::Global {
+                    start: word(0),
+                    granules: word(1),
+                    position: word(2),
+                    end: word(3),
+                }),
+                number => Err(Refusal { number: number as _, position: word(0) }),
+            })
         }
     }
 }
