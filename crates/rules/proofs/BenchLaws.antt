@@ -2,8 +2,10 @@
 -- Assumes nothing.
 use mathlib.Core.Path.{refl}
 use Rattle.rules.specs.Descriptors.{stepAt, descriptor, second, placed, ulebIn}
+use Rattle.rules.specs.Load.{tagged}
+use Rattle.rules.specs.Memory.{put, over}
 use Rattle.rules.specs.Bench.{BenchHolds}
 
 pub bench : BenchHolds
-unfolding stepAt descriptor second placed ulebIn
+unfolding stepAt descriptor second placed ulebIn tagged put over
 bench = refl

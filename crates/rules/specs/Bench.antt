@@ -1,45 +1,88 @@
--- The marked rows of the bench sheet on descriptors, as one table under one claim.
+-- The marked rows of the bench sheet, as one table under one claim.
 -- Assumes nothing.
-use Prim.Native.Nat.{ℕ}
+use Prim.Native.Nat.{ℕ, _+_, _*_, _-_, _/_, _^_}
 use mathlib.Core.List.{List, [], _∷_, map}
 use mathlib.Core.Path.{_≡_}
 use Rattle.rules.specs.Outcome.{Outcome, good, refuse}
+use Rattle.rules.specs.Limits.{granule}
 use Rattle.rules.specs.Descriptors.{Read, global, stepAt, tableStart}
+use Rattle.rules.specs.Load.{addressOf, natural, planeOf, sourceTag}
 use Rattle.rules.specs.declared.Cursor.{Cursor}
+use Rattle.rules.specs.declared.Global.{Global}
+use Rattle.rules.specs.declared.Target.the-variants.{Base}
 
--- a descriptor table, the cursor to read it at, and what reading one descriptor there comes to
+-- a descriptor table with the cursor to read it at; or the addend of a RELATIVE word with the place's eight bytes
+pub data Case : Type 0 where
+  read : List ℕ → Cursor → Case
+  word : ℕ → ℕ → Case
+
+-- what reading one descriptor comes to; or the word written
+pub data Result : Type 0 where
+  reads : Outcome Read → Result
+  writes : ℕ → Result
+
 pub record Row : Type 0 where
-  pub bytes : List ℕ
-  pub from : Cursor
-  pub says : Outcome Read
+  pub given : Case
+  pub says : Result
 
 abbrev cursor : ℕ → ℕ → Cursor
 cursor position end = record { position = position; end = end }
 
--- a global's start and granules, and the cursor after it
-abbrev found : ℕ → ℕ → Cursor → Outcome Read
-found start granules next = good (global (record { start = start; granules = granules }) next)
+abbrev globalOf : ℕ → ℕ → Global
+globalOf start granules = record { start = start; granules = granules }
 
-abbrev row : List ℕ → Cursor → Outcome Read → Row
-row bytes from says = record { bytes = bytes; from = from; says = says }
+-- a row that finds a global of a start and granules, and the cursor after it
+abbrev found : List ℕ → Cursor → ℕ → ℕ → Cursor → Row
+found bytes from start granules next = record { given = read bytes from; says = reads (good (global (globalOf start granules) next)) }
+
+-- a table that is refused with number 8
+abbrev refused : List ℕ → Row
+refused bytes = record { given = read bytes tableStart; says = reads (refuse 8 0) }
+
+abbrev written : ℕ → ℕ → ℕ → Row
+written addend loaded says = record { given = word addend loaded; says = writes says }
 
 -- 82 10 10 07 01: three globals
 abbrev sheet : List ℕ
 sheet = 0x82 ∷ 0x10 ∷ 0x10 ∷ 0x07 ∷ 0x01 ∷ []
 
+-- the sheet's bias, memory and plane: those globals with the tags 3, 9, 5
+abbrev bias : ℕ
+bias = 0x40000000
+
+abbrev memory : ℕ
+memory = 0x2000
+
+abbrev plane : List ℕ
+plane = planeOf (globalOf 0x1000 2 ∷ globalOf 0x1040 8 ∷ globalOf 0x10c0 1 ∷ []) (3 ∷ 9 ∷ 5 ∷ []) (memory / granule)
+
+-- a number below 0 as eight bytes hold it
+abbrev minus : ℕ → ℕ
+minus n = 2 ^ 64 - n
+
 abbrev pub rows : List Row
 rows =
-    row sheet tableStart (found 0x1000 2 (cursor 2 0x1020))
-    ∷ row sheet (cursor 2 0x1020) (found 0x1040 8 (cursor 4 0x10c0))
-    ∷ row sheet (cursor 4 0x10c0) (found 0x10c0 1 (cursor 5 0x10d0))
-    ∷ row (0x07 ∷ []) tableStart (found 0 7 (cursor 1 0x70))
-    ∷ row (0x00 ∷ 0x07 ∷ []) tableStart (found 0 8 (cursor 2 0x80))
-    ∷ row (0x00 ∷ 0x00 ∷ []) tableStart (found 0 1 (cursor 2 0x10))
-    ∷ row (0x00 ∷ []) tableStart (refuse 8 0)
-    ∷ row (0x81 ∷ 0x00 ∷ []) tableStart (found 0 1 (cursor 2 0x10))
-    ∷ row (0xff ∷ 0xff ∷ 0xff ∷ 0xff ∷ 0xff ∷ 0xff ∷ 0xff ∷ 0xff ∷ 0xff ∷ 0x02 ∷ []) tableStart (refuse 8 0)
+    found sheet tableStart 0x1000 2 (cursor 2 0x1020)
+    ∷ found sheet (cursor 2 0x1020) 0x1040 8 (cursor 4 0x10c0)
+    ∷ found sheet (cursor 4 0x10c0) 0x10c0 1 (cursor 5 0x10d0)
+    ∷ found (0x07 ∷ []) tableStart 0 7 (cursor 1 0x70)
+    ∷ found (0x00 ∷ 0x07 ∷ []) tableStart 0 8 (cursor 2 0x80)
+    ∷ found (0x00 ∷ 0x00 ∷ []) tableStart 0 1 (cursor 2 0x10)
+    ∷ refused (0x00 ∷ [])
+    ∷ found (0x81 ∷ 0x00 ∷ []) tableStart 0 1 (cursor 2 0x10)
+    ∷ refused (0xff ∷ 0xff ∷ 0xff ∷ 0xff ∷ 0xff ∷ 0xff ∷ 0xff ∷ 0xff ∷ 0xff ∷ 0x02 ∷ [])
+    ∷ written 0x10c0 (minus 128) 0x09000000400010c0
+    ∷ written 0x10c0 0 0x05000000400010c0
+    ∷ written 0x10c0 (minus 1) 0x09000000400010c0
+    ∷ written 0x1020 0 0x0000000040001020
     ∷ []
 
--- the claim: each row says what reading one descriptor there comes to, with index 0 to report
+-- what the definitions say of a case, with index 0 to report: the word is the address with its tag in bits 56 to 59
+abbrev pub resultOf : Case → Result
+resultOf (read bytes from) = reads (stepAt 0 bytes from)
+resultOf (word addend loaded) =
+    writes (natural (addressOf bias Base addend) + 2 ^ 56 * sourceTag plane bias memory Base addend loaded)
+
+-- the claim: each row says what the definitions say of its case
 abbrev pub BenchHolds : Type 0
-BenchHolds = map (λ (r : Row). stepAt 0 (r .bytes) (r .from)) rows ≡ map (λ (r : Row). r .says) rows
+BenchHolds = map (λ (r : Row). resultOf (r .given)) rows ≡ map (λ (r : Row). r .says) rows
