@@ -1,0 +1,98 @@
+// Examines an image from standard input, and writes its globals or the refusal.
+ghost use mathlib.Core.Path.{_≡_};
+ghost use Rattle.rules.specs.Descriptors.{descriptorTable};
+ghost use Rattle.rules.specs.Answers.{ofAnswer};
+ghost use Rattle.examine_image.specs.Image.{imageAnswer};
+use libc::STDIN_FILENO;
+use libc::STDOUT_FILENO;
+use rules::Answer;
+use rules::Cursor;
+use rules::Descriptors;
+use rules::ModuleAnswer;
+use rules::Refusal;
+use rules::Step;
+
+// Bytes of the longest image.
+const IMAGE_LIMIT: usize = 65536;
+
+// Bytes that are read: one more tells longer input.
+const READ_LIMIT: usize = 65537;
+
+// The refusal of longer input.
+const TOO_LONG: Refusal = Refusal {
+    number: 1,
+    position: 0,
+};
+
+// Longer input is refused; an image is examined.
+fn answer_image(f: &[u8]) -> Answer
+    ensures { λ v. ⌜ ofAnswer v ≡ imageAnswer (now (f .entry)) ⌝ }
+{
+    if IMAGE_LIMIT < f.len() {
+        return Answer::Refused(TOO_LONG);
+    }
+    examine::examine_file(f)
+}
+
+// The descriptor table's bytes.
+fn table_of(f: &[u8], t: Descriptors) -> &[u8]
+    ensures { λ r. ⌜ now r ≡ descriptorTable (now (f .entry)) t ⌝ }
+{
+    reads::part_of(f, t.at as usize, t.bytes as usize)
+}
+
+fn print_pair(a: u64, b: u64) {
+    io::print_decimal(STDOUT_FILENO, a);
+    io::write_all(STDOUT_FILENO, b" ");
+    io::print_decimal(STDOUT_FILENO, b);
+    io::write_all(STDOUT_FILENO, b"\n");
+}
+
+fn print_refusal(r: Refusal) {
+    io::write_all(STDOUT_FILENO, b"refused ");
+    print_pair(r.number as u64, r.position);
+}
+
+// A line for each global that the table lists.
+fn print_globals(table: &[u8], globals: u16) {
+    let mut cursor = Cursor {
+        position: 0,
+        end: 0,
+    };
+    for i in 0..globals {
+        let step = cursor.step(table, i as u64);
+        let Step::Global(g, next) = step else {
+            return;
+        };
+        print_pair(g.start, g.granules);
+        cursor = next;
+    }
+}
+
+// The number of globals, and each of them.
+fn print_module(f: &[u8]) {
+    let read = elf::read_module(f);
+    let ModuleAnswer::Found(m) = read else {
+        return;
+    };
+    io::write_all(STDOUT_FILENO, b"globals ");
+    io::print_decimal(STDOUT_FILENO, m.globals as u64);
+    io::write_all(STDOUT_FILENO, b"\n");
+    let t = m.descriptors;
+    print_globals(table_of(f, t), m.globals);
+}
+
+fn print_answer(f: &[u8]) {
+    let answer = answer_image(f);
+    let Answer::Refused(r) = answer else {
+        print_module(f);
+        return;
+    };
+    print_refusal(r);
+}
+
+fn main() {
+    let mut image = [0u8; READ_LIMIT];
+    let n = io::read_full(STDIN_FILENO, &mut image);
+    print_answer(&image[..n]);
+}
