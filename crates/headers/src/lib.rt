@@ -11,6 +11,7 @@ ghost use Rattle.rules.specs.Answers.{ofChecked, ofHeaders};
 use rules::Checked;
 use rules::Headers;
 use rules::HeadersAnswer;
+use rules::MEMORY_LIMIT;
 use rules::Place;
 use rules::Refusal;
 use rules::Segment;
@@ -18,8 +19,6 @@ use rules::Segment;
 const FILE_LEAST: usize = 64;
 
 const FILE_LIMIT: usize = 1048576;
-
-const MEMORY_LIMIT: u64 = 1048576;
 
 const HEADER_LIMIT: u16 = 16;
 

@@ -12,18 +12,16 @@ ghost use Rattle.rules.specs.Answers.{ofChecked};
 ghost use Rattle.laws.proofs.Writes.{Apart};
 ghost use Rattle.placing.specs.Addresses.{badAddressIn};
 ghost use Rattle.placing.specs.Words.{wordIn, written};
+use rules::ADDRESS_LIMIT;
 use rules::Address;
 use rules::Checked;
 use rules::Entry;
 use rules::Headers;
+use rules::MEMORY_LIMIT;
 use rules::Refusal;
 use rules::Relocations;
 use rules::Segment;
 use rules::Target;
-
-const MEMORY_LIMIT: u64 = 1048576;
-
-const ADDRESS_LIMIT: u64 = 281474976710656;
 
 const PAGE: u64 = 4096;
 

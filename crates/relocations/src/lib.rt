@@ -10,6 +10,7 @@ ghost use Rattle.relocations.specs.Walk.{entryFault, rivalsFrom};
 use rules::Checked;
 use rules::Entry;
 use rules::Headers;
+use rules::MEMORY_LIMIT;
 use rules::Place;
 use rules::Refusal;
 use rules::Relocations;
@@ -31,8 +32,6 @@ const STB_WEAK: u8 = 2;
 const SHN_LORESERVE: u16 = 0xff00;
 
 const SYMBOL_BYTES: u64 = 24;
-
-const MEMORY_LIMIT: u64 = 1048576;
 
 // An entry's place.
 pub fn place_at(f: &[u8], r: Relocations, i: u16) -> u64

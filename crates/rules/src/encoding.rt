@@ -7,6 +7,7 @@ ghost use Rattle.rules.specs.Outcome.{refuse};
 ghost use Rattle.rules.specs.Descriptors.{ulebAt, placed, second, descriptor, stepAt};
 ghost use Rattle.rules.specs.Answers.{ofStep};
 ghost use Rattle.rules.specs.Numbers.{ofUleb};
+use crate::ADDRESS_LIMIT;
 use crate::Cursor;
 use crate::Global;
 use crate::Refusal;
@@ -39,10 +40,7 @@ const SIZE_OFFSET: u64 = 1;
 // Bytes of a granule.
 const GRANULE: u64 = 16;
 
-// No global ends above this.
-const ADDRESS_LIMIT: u64 = 281474976710656;
-
-// The same in granules.
+// The limit of addresses in granules; no global ends above it.
 const GRANULE_LIMIT: u64 = 17592186044416;
 
 // The refusal numbers of checks 8 and 9.

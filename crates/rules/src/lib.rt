@@ -3,6 +3,12 @@
 // Global descriptors: the reading of one at a cursor. A method stands in the crate of its struct.
 pub mod encoding;
 
+// The end of memory.
+pub const MEMORY_LIMIT: u64 = 1048576;
+
+// Addresses are below this.
+pub const ADDRESS_LIMIT: u64 = 281474976710656;
+
 // Why a call was refused: document 01's number and position.
 pub struct Refusal {
     pub number: u8,

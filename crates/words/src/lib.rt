@@ -9,11 +9,9 @@ ghost use Rattle.rules.specs.Limits.{granule};
 ghost use Rattle.rules.specs.Memory.{signed, mod64};
 ghost use Rattle.rules.specs.Load.{addressOf, tagAddress, sourceTag};
 ghost use Rattle.rules.specs.Answers.{inRange};
+use rules::ADDRESS_LIMIT;
 use rules::Address;
 use rules::Target;
-
-// Addresses are below this.
-const ADDRESS_LIMIT: u64 = 281474976710656;
 
 // Addends from here on are below 0.
 const NEGATIVE: u64 = 9223372036854775808;
