@@ -45,8 +45,8 @@ pub fn byte_at(s: &[u8], at: usize) -> u8
     0
 }
 
-// The number of the two bytes from a position on; bytes past the end are 0.
-pub fn read16(s: &[u8], at: usize) -> u16
+// The number of the two bytes from a position on, where they may pass the end.
+fn cut16(s: &[u8], at: usize) -> u16
     ensures { λ r. ⌜ r ≡ le 2 (now (s .entry)) at ⌝ }
 {
     if s.len() <= at {
@@ -58,38 +58,69 @@ pub fn read16(s: &[u8], at: usize) -> u16
     le16(s, at)
 }
 
-// The number of the four bytes from a position on; bytes past the end are 0.
-pub fn read32(s: &[u8], at: usize) -> u32
+// The number of the two bytes from a position on; bytes past the end are 0.
+pub fn read16(s: &[u8], at: usize) -> u16
+    ensures { λ r. ⌜ r ≡ le 2 (now (s .entry)) at ⌝ }
+{
+    if 2 <= s.len() {
+        if at <= s.len() - 2 {
+            return le16(s, at);
+        }
+        return cut16(s, at);
+    }
+    cut16(s, at)
+}
+
+// The number of the four bytes from a position on, where they may pass the end.
+fn cut32(s: &[u8], at: usize) -> u32
     ensures { λ r. ⌜ r ≡ le 4 (now (s .entry)) at ⌝ }
 {
     if s.len() <= at {
         return 0;
     }
-    let left = s.len() - at;
-    if 4 <= left {
-        return le32(s, at);
-    }
-    if left <= 2 {
+    if s.len() - at <= 2 {
         return read16(s, at) as u32;
     }
     read16(s, at) as u32 + 65536 * (read16(s, at + 2) as u32)
 }
 
-// The number of the eight bytes from a position on; bytes past the end are 0.
-pub fn read64(s: &[u8], at: usize) -> u64
+// The number of the four bytes from a position on; bytes past the end are 0.
+pub fn read32(s: &[u8], at: usize) -> u32
+    ensures { λ r. ⌜ r ≡ le 4 (now (s .entry)) at ⌝ }
+{
+    if 4 <= s.len() {
+        if at <= s.len() - 4 {
+            return le32(s, at);
+        }
+        return cut32(s, at);
+    }
+    cut32(s, at)
+}
+
+// The number of the eight bytes from a position on, where they may pass the end.
+fn cut64(s: &[u8], at: usize) -> u64
     ensures { λ r. ⌜ r ≡ le 8 (now (s .entry)) at ⌝ }
 {
     if s.len() <= at {
         return 0;
     }
-    let left = s.len() - at;
-    if 8 <= left {
-        return le64(s, at);
-    }
-    if left <= 4 {
+    if s.len() - at <= 4 {
         return read32(s, at) as u64;
     }
     read32(s, at) as u64 + 4294967296 * (read32(s, at + 4) as u64)
+}
+
+// The number of the eight bytes from a position on; bytes past the end are 0. One test of the position where they do not pass it.
+pub fn read64(s: &[u8], at: usize) -> u64
+    ensures { λ r. ⌜ r ≡ le 8 (now (s .entry)) at ⌝ }
+{
+    if 8 <= s.len() {
+        if at <= s.len() - 8 {
+            return le64(s, at);
+        }
+        return cut64(s, at);
+    }
+    cut64(s, at)
 }
 
 // The n bytes from a position on, fewer where the end comes first.
