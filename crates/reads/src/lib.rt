@@ -14,6 +14,12 @@ fn byte(s: &[u8], at: usize) -> u8
     s[at]
 }
 
+fn wide(x: u8) -> u64
+    ensures { λ r. ⌜ r ≡ x ⌝ }
+{
+    x as u64
+}
+
 fn le16(s: &[u8], at: usize) -> u16
     requires { ⌜ at + 2 ≤ length (now s) ⌝ }
     ensures { λ r. ⌜ r ≡ le 2 (now (s .entry)) at ⌝ }
@@ -97,17 +103,18 @@ pub fn read32(s: &[u8], at: usize) -> u32
     cut32(s, at)
 }
 
-// The number of the eight bytes from a position on, where they may pass the end.
+// The number of the eight bytes from a position on, of which fewer than eight are left.
 fn cut64(s: &[u8], at: usize) -> u64
+    requires { ⌜ length (now s) < at + 8 ⌝ }
     ensures { λ r. ⌜ r ≡ le 8 (now (s .entry)) at ⌝ }
 {
-    if s.len() <= at {
-        return 0;
+    let mut value: u64 = 0;
+    let mut end = s.len();
+    while at < end {
+        end -= 1;
+        value = value * 256 + wide(byte(s, end));
     }
-    if s.len() - at <= 4 {
-        return read32(s, at) as u64;
-    }
-    read32(s, at) as u64 + 4294967296 * (read32(s, at + 4) as u64)
+    value
 }
 
 // The number of the eight bytes from a position on; bytes past the end are 0. One test of the position where they do not pass it.
