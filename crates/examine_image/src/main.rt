@@ -1,13 +1,16 @@
 // Examines an image from standard input, and writes its globals or the refusal.
 ghost use mathlib.Core.Path.{_≡_};
-ghost use Rattle.rules.specs.Descriptors.{descriptorTable};
+ghost use Rattle.rules.specs.Outcome.{good, bad};
+ghost use Rattle.rules.specs.Examine.{moduleOf};
+ghost use Rattle.rules.specs.Load.{globalsIn, globalAt};
 ghost use Rattle.rules.specs.Answers.{ofAnswer};
 ghost use Rattle.examine_image.specs.Image.{imageAnswer};
 use libc::STDIN_FILENO;
 use libc::STDOUT_FILENO;
 use rules::Answer;
 use rules::Cursor;
-use rules::Descriptors;
+use rules::Global;
+use rules::Module;
 use rules::ModuleAnswer;
 use rules::Refusal;
 use rules::Step;
@@ -34,13 +37,6 @@ fn answer_image(f: &[u8]) -> Answer
     examine::examine_file(f)
 }
 
-// The descriptor table's bytes.
-fn table_of(f: &[u8], t: Descriptors) -> &[u8]
-    ensures { λ r. ⌜ now r ≡ descriptorTable (now (f .entry)) t ⌝ }
-{
-    reads::part_of(f, t.at as usize, t.bytes as usize)
-}
-
 fn print_pair(a: u64, b: u64) {
     io::print_decimal(STDOUT_FILENO, a);
     io::write_all(STDOUT_FILENO, b" ");
@@ -48,13 +44,28 @@ fn print_pair(a: u64, b: u64) {
     io::write_all(STDOUT_FILENO, b"\n");
 }
 
-fn print_refusal(r: Refusal) {
+// Written is the refusal of the input.
+fn print_refusal(f: &[u8], r: Refusal)
+    requires { ⌜ imageAnswer (now f) ≡ bad r ⌝ }
+{
     io::write_all(STDOUT_FILENO, b"refused ");
     print_pair(r.number as u64, r.position);
 }
 
+// Written is the global of the index i.
+fn print_global(f: &[u8], m: Module, i: u16, g: Global)
+    requires { ⌜ g ≡ globalAt (globalsIn (now f) m) i ⌝ }
+{
+    print_pair(g.start, g.granules);
+}
+
 // A line for each global that the table lists.
-fn print_globals(table: &[u8], globals: u16) {
+fn print_globals(f: &[u8], m: Module)
+    requires { ⌜ moduleOf (now f) ≡ good m ⌝ }
+{
+    let t = m.descriptors;
+    let globals = m.globals;
+    let table = reads::part_of(f, t.at as usize, t.bytes as usize);
     let mut cursor = Cursor {
         position: 0,
         end: 0,
@@ -64,7 +75,7 @@ fn print_globals(table: &[u8], globals: u16) {
         let Step::Global(g, next) = step else {
             return;
         };
-        print_pair(g.start, g.granules);
+        print_global(f, m, i, g);
         cursor = next;
     }
 }
@@ -78,8 +89,7 @@ fn print_module(f: &[u8]) {
     io::write_all(STDOUT_FILENO, b"globals ");
     io::print_decimal(STDOUT_FILENO, m.globals as u64);
     io::write_all(STDOUT_FILENO, b"\n");
-    let t = m.descriptors;
-    print_globals(table_of(f, t), m.globals);
+    print_globals(f, m);
 }
 
 fn print_answer(f: &[u8]) {
@@ -88,7 +98,7 @@ fn print_answer(f: &[u8]) {
         print_module(f);
         return;
     };
-    print_refusal(r);
+    print_refusal(f, r);
 }
 
 fn main() {
