@@ -7,7 +7,7 @@ use mathlib.Core.List.{List}
 use lib.ListN.{length}
 use Rattle.rules.specs.Outcome.{good}
 use Rattle.rules.specs.Limits.{globalLimit}
-use Rattle.rules.specs.Descriptors.{stepAt, tableStart, descriptorTable}
+use Rattle.rules.specs.Descriptors.{global, stepAt, tableStart, descriptorTable}
 use Rattle.rules.specs.Examine.{moduleOf}
 use Rattle.rules.specs.Load.{globalsIn, globalAt}
 use Rattle.rules.specs.Answers.{ofStep}
@@ -17,7 +17,7 @@ use Rattle.rules.specs.declared.Global.{Global}
 use Rattle.rules.specs.declared.Cursor.{Cursor}
 use Rattle.rules.specs.declared.Step.{Step}
 use Rattle.rules.specs.declared.Step.the-variants as step
-use Rattle.laws.proofs.Globals.{Walk, walk-start, walk-global, globals-count}
+use Rattle.laws.proofs.Globals.{Walk, walk-start, walk-step, walk-global, globals-count}
 use Rattle.demands.proofs.Reading.{module-reads}
 
 -- it begins at the table's start, and there are as many globals as were counted
@@ -33,6 +33,19 @@ module-few f m e =
     let n = r .count in
     let l = globals-count f (m .headers) (m .descriptors) (globalsIn f m) (r .loads) (r .globals) in
     omega arith
+
+-- a step that reads a global answers one
+is-global : (st : Step) (g : Global) (next : Cursor) → ofStep st ≡ good (global g next) → st ≡ step.Global g next
+is-global step.Finished g next e = absurd (let z : _≡_ {A = ℕ} 0 1 = cc in omega arith)
+is-global (step.Global g₁ next₁) g next e = let a : g₁ ≡ g = cc in let b : next₁ ≡ next = cc in rw (a, b)
+is-global (step.Refused r) g next e = absurd (let z : _≡_ {A = ℕ} 0 1 = cc in omega arith)
+
+-- below the number of globals each step reads one
+pub walk-reads : {f : List ℕ} {h : Headers} {s : List ℕ} {gs : List Global} {i : ℕ} {c : Cursor} {st : Step}
+    → Walk f h s gs i c → i < length gs → ofStep st ≡ stepAt i s c → (next : Cursor) × (st ≡ step.Global (globalAt gs i) next)
+walk-reads {f} {h} {s} {gs} {i} {c} {st} w l e =
+    let t = walk-step f h s gs i c w l in
+    (t .next, is-global st (globalAt gs i) (t .next) (e ∙ t .here))
 
 -- a step reads the global of the index, and the walk goes on after it
 pub walk-read : {f : List ℕ} {h : Headers} {s : List ℕ} {gs : List Global} {i : ℕ} {c : Cursor} {st : Step} {g : Global} {next : Cursor}

@@ -1,5 +1,6 @@
 // Examines an image from standard input, and writes its globals or the refusal.
 ghost use mathlib.Core.Path.{_≡_};
+ghost use lib.ListN.{length};
 ghost use Rattle.rules.specs.Outcome.{good, bad};
 ghost use Rattle.rules.specs.Examine.{moduleOf};
 ghost use Rattle.rules.specs.Load.{globalsIn, globalAt};
@@ -59,9 +60,10 @@ fn print_global(f: &[u8], m: Module, i: u16, g: Global)
     print_pair(g.start, g.granules);
 }
 
-// A line for each global that the table lists.
-fn print_globals(f: &[u8], m: Module)
+// A line for each global that the table lists; says how many lines.
+fn print_globals(f: &[u8], m: Module) -> u16
     requires { ⌜ moduleOf (now f) ≡ good m ⌝ }
+    ensures { λ r. ⌜ r ≡ length (globalsIn (now (f .entry)) m) ⌝ }
 {
     let t = m.descriptors;
     let globals = m.globals;
@@ -73,11 +75,12 @@ fn print_globals(f: &[u8], m: Module)
     for i in 0..globals {
         let step = cursor.step(table, i as u64);
         let Step::Global(g, next) = step else {
-            return;
+            return i;
         };
         print_global(f, m, i, g);
         cursor = next;
     }
+    globals
 }
 
 // The number of globals, and each of them.
