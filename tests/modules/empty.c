@@ -1,0 +1,3 @@
+/* No relocation and no global. */
+
+int one(void) { return 1; }

@@ -1,0 +1,60 @@
+/* load_cases < load.cases: a line a case, in the form of load.answers (tests/vectors). */
+#include <stdio.h>
+#include <stdlib.h>
+#include "hagolstan.h"
+
+static uint8_t file[4 << 20], memory[4 << 20], plane[4 << 20], choices[1 << 16];
+
+static int get(uint64_t *value, int bytes)
+{
+    *value = 0;
+    for (int i = 0; i < bytes; i++) {
+        int c = getchar();
+        if (c == EOF)
+            return 0;
+        *value |= (uint64_t)c << (8 * i);
+    }
+    return 1;
+}
+
+/* Reads a length and as many bytes. */
+static int get_bytes(uint8_t *bytes, size_t room, uint64_t *length)
+{
+    return get(length, 4) && *length <= room && fread(bytes, 1, *length, stdin) == *length;
+}
+
+static uint32_t crc(const uint8_t *bytes, size_t length)
+{
+    uint32_t c = 0xffffffff;
+    for (size_t i = 0; i < length; i++) {
+        c ^= bytes[i];
+        for (int bit = 0; bit < 8; bit++)
+            c = c >> 1 ^ (c & 1 ? 0xedb88320 : 0);
+    }
+    return ~c;
+}
+
+int main(void)
+{
+    static const char *const modes[] = {"absent", "sync", "async"}, *const switches[] = {"absent", "off", "on"};
+    uint64_t file_length, bias, memory_length, plane_length, choices_length, last;
+    while (get_bytes(file, sizeof file, &file_length)) {
+        if (!get(&bias, 8) || !get(&memory_length, 4) || !get(&plane_length, 4) || memory_length > sizeof memory ||
+            plane_length > sizeof plane || !get_bytes(choices, sizeof choices, &choices_length) || !get(&last, 4))
+            return 2;
+        for (size_t i = 0; i < memory_length; i++)
+            memory[i] = (uint8_t)(i * 7 + 3);
+        for (size_t i = 0; i < plane_length; i++)
+            plane[i] = (uint8_t)(i * 5 + 1);
+        uint64_t load = hagolstan_load(file, file_length, bias, memory, memory_length, plane, plane_length, choices, choices_length);
+        uint64_t examined = hagolstan_examine(file, file_length), facts = hagolstan_facts(file, file_length);
+        printf("%llu 0 %08x %08x 00000000 %llu", (unsigned long long)load, (unsigned)crc(memory, memory_length),
+               (unsigned)crc(plane, plane_length), (unsigned long long)examined);
+        if (HAGOLSTAN_REFUSAL(examined))
+            printf(" - - - - - -\n");
+        else
+            printf(" %s %s %s %u %u 0\n", modes[HAGOLSTAN_MODE(facts)], switches[HAGOLSTAN_HEAP(facts)],
+                   switches[HAGOLSTAN_STACK(facts)], HAGOLSTAN_GLOBALS(facts), HAGOLSTAN_WORDS(facts));
+    }
+    return 0;
+}

@@ -1,0 +1,8 @@
+/* 1,025 tagged globals. */
+
+#define ONE(n) int g##n = 1;
+#define FOUR(n) ONE(n##0) ONE(n##1) ONE(n##2) ONE(n##3)
+#define SIXTEEN(n) FOUR(n##0) FOUR(n##1) FOUR(n##2) FOUR(n##3)
+#define SIXTYFOUR(n) SIXTEEN(n##0) SIXTEEN(n##1) SIXTEEN(n##2) SIXTEEN(n##3)
+#define K(n) SIXTYFOUR(n##0) SIXTYFOUR(n##1) SIXTYFOUR(n##2) SIXTYFOUR(n##3)
+K(a) K(b) K(c) K(d) ONE(e)

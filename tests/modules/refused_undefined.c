@@ -1,0 +1,4 @@
+/* A variable of another module. */
+
+extern int elsewhere;
+int *elsewhere_at = &elsewhere;
