@@ -1,0 +1,111 @@
+/* A C host: loads a module with memory tags and shows what the loader did.
+ *
+ *     cc -std=c99 -Iinclude examples/host.c target/staticlib/libhagolstan.a -o target/host
+ *     target/host MODULE [BIAS]
+ *
+ * Ends with 0 when the module is taken, 1 when it is refused, 2 when it cannot be read. */
+#include <inttypes.h>
+#include <stdio.h>
+#include <stdlib.h>
+#include "hagolstan.h"
+
+#define LIMIT 1048576 /* bytes of a file, and of memory */
+
+static uint8_t file[LIMIT + 1], memory[LIMIT], plane[LIMIT / 16], choices[1024];
+
+/* What each refusal means, and what its position counts ("": nothing). */
+static const struct {
+    const char *meaning, *position;
+} refusals[] = {
+    {"taken", ""},
+    {"the file is shorter than 64 bytes or longer than 1,048,576", ""},
+    {"this is not a 64-bit little-endian ELF file", "byte"},
+    {"this is not a shared object for aarch64 with 1 to 16 program headers inside the file", ""},
+    {"a PT_LOAD is empty, out of order, misaligned, or outside the file or the first 1,048,576 addresses", "program header"},
+    {"there is no PT_DYNAMIC, a second one, or a bad one", "program header"},
+    {"a dynamic entry is not allowed or repeated, or its partner is missing", "dynamic entry"},
+    {"a table is not in the file part of one PT_LOAD, or has over 1,024 relocations", "table (0 relocations, 1 descriptors)"},
+    {"a global's descriptor is cut short, or its number is too long", "descriptor"},
+    {"a global lies outside every PT_LOAD, or there are over 1,024", "descriptor"},
+    {"the kind or the symbol of a relocation is not allowed", "relocation"},
+    {"the place of a relocation is odd, read-only, outside the module or used before", "relocation"},
+    {"the lent memory, the tag plane or the bias does not fit the module", ""},
+    {"a relocated address is below 0 or at least 2^48", "relocation"},
+    {"the number of tag choices is not the number of globals, or a choice is bad", "choice, or the number of globals"},
+};
+
+static int refused(uint64_t answer)
+{
+    unsigned number = HAGOLSTAN_REFUSAL(answer);
+    printf("refused %u: %s", number, refusals[number].meaning);
+    if (refusals[number].position[0])
+        printf("; %s %" PRIu64, refusals[number].position, HAGOLSTAN_POSITION(answer));
+    printf("\n");
+    return 1;
+}
+
+static void show_facts(uint64_t facts)
+{
+    static const char *const modes[] = {"absent", "synchronous", "asynchronous"}, *const switches[] = {"absent", "off", "on"};
+    printf("mode %s, heap %s, stack %s\n", modes[HAGOLSTAN_MODE(facts)], switches[HAGOLSTAN_HEAP(facts)], switches[HAGOLSTAN_STACK(facts)]);
+    printf("%u globals, %u words relocated\n", HAGOLSTAN_GLOBALS(facts), HAGOLSTAN_WORDS(facts));
+}
+
+/* Each run of one tag in the plane is a global: neighbours have different tags. */
+static void show_globals(uint64_t bias)
+{
+    for (size_t start = 0, end; start < sizeof plane; start = end) {
+        for (end = start + 1; end < sizeof plane && plane[end] == plane[start]; end++)
+            ;
+        if (plane[start])
+            printf("global at 0x%" PRIx64 ": %zu granules, tag %u\n", bias + 16 * start, end - start, plane[start]);
+    }
+}
+
+static uint64_t word_at(size_t place)
+{
+    uint64_t word = 0;
+    for (size_t i = 8; i-- > 0;)
+        word = word << 8 | memory[place + i];
+    return word;
+}
+
+/* Shows the words that point into the module. */
+static void show_pointers(uint64_t bias)
+{
+    for (size_t place = 0; place < sizeof memory; place += 8) {
+        uint64_t word = word_at(place), address = word & ((UINT64_C(1) << 56) - 1);
+        if (bias <= address && address - bias < sizeof memory)
+            printf("word at 0x%" PRIx64 ": 0x%" PRIx64 " tag %u\n", bias + place, address, (unsigned)(word >> 56));
+    }
+}
+
+int main(int count, char **words)
+{
+    FILE *in = count == 2 || count == 3 ? fopen(words[1], "rb") : NULL;
+    if (!in) {
+        fprintf(stderr, "usage: host MODULE [BIAS]\n");
+        return 2;
+    }
+    size_t length = fread(file, 1, sizeof file, in);
+    fclose(in);
+    uint64_t bias = count == 3 ? strtoull(words[2], NULL, 0) : 0x40000000;
+
+    uint64_t answer = hagolstan_examine(file, length);
+    if (HAGOLSTAN_REFUSAL(answer))
+        return refused(answer);
+    uint64_t facts = hagolstan_facts(file, length);
+    show_facts(facts);
+
+    /* A host in the field draws the choices at random. */
+    size_t globals = HAGOLSTAN_GLOBALS(facts);
+    for (size_t i = 0; i < globals; i++)
+        choices[i] = (uint8_t)(1 + 7 * i % 15);
+
+    answer = hagolstan_load(file, length, bias, memory, sizeof memory, plane, sizeof plane, choices, globals);
+    if (HAGOLSTAN_REFUSAL(answer))
+        return refused(answer);
+    show_globals(bias);
+    show_pointers(bias);
+    return 0;
+}

@@ -1,0 +1,296 @@
+#!/usr/bin/env python3
+"""Loads real modules and compares answer, memory and tag plane with what readelf says of them.
+
+    check.py READELF SCRATCH FOLDER -- LOADER...
+
+READELF is the program to call (GNU or LLVM), SCRATCH a folder for the dumps, FOLDER has the modules that
+tests/modules/build wrote, and LOADER... is the command of programs/load_file.c. What to expect comes from readelf's
+lists of segments, dynamic entries, relocations and symbols, and from the module's bytes; descriptors are decoded
+here, after the Memtag ABI. Nothing of the loader's own code is used.
+"""
+import os
+import re
+import subprocess
+import sys
+
+MASK = (1 << 64) - 1
+LIMIT = 1 << 20
+ABS64, GLOB_DAT, RELATIVE = 257, 1025, 1027
+MODE, HEAP, STACK, GLOBALS, GLOBALSSZ = 0x70000009, 0x7000000B, 0x7000000C, 0x7000000D, 0x7000000F
+BIASES = [0x40000000, 0, (1 << 48) - LIMIT]
+
+checks = 0
+
+
+def expect(condition, what):
+    global checks
+    checks += 1
+    if not condition:
+        sys.exit("FAILED: " + what)
+
+
+class Module:
+    """A module as readelf describes it."""
+
+    def __init__(self, readelf, path):
+        self.path = path
+        self.name = os.path.basename(os.path.dirname(path)) + "/" + os.path.basename(path)[:-3]
+        self.bytes = open(path, "rb").read()
+        run = subprocess.run([readelf, "-W", "-l", "-d", "-r", "-s", path], capture_output=True, text=True)
+        self.headers, self.dynamic, self.words = [], [], []
+        self.dynsym, self.symtab = {}, {}
+        table = None
+        for line in run.stdout.splitlines():
+            part = line.split()
+            if "Symbol table" in line:
+                table = self.dynsym if ".dynsym" in line else self.symtab
+            elif re.match(r"\s+[A-Z_]+\s+0x[0-9a-f]{6} 0x[0-9a-f]{16} ", line):
+                offset, vaddr, _, filesz, memsz = (int(x, 16) for x in part[1:6])
+                self.headers.append((part[0], offset, vaddr, filesz, memsz, "W" in "".join(part[6:-1]), int(part[-1], 16)))
+            elif re.match(r"\s*0x[0-9a-f]{16} \(", line):
+                rest = line[line.index(")") + 1:].split()
+                value = int(rest[0], 0) if re.match(r"(0x[0-9a-f]+|\d+)$", rest[0]) else None
+                self.dynamic.append((int(part[0], 16), value))
+            elif re.match(r"[0-9a-f]{16}\s+[0-9a-f]{16} R_", line) and len(part) > 3:
+                info = int(part[1], 16)
+                addend = int(part[-1], 16) * (-1 if part[-2] == "-" else 1)
+                self.words.append((int(part[0], 16), info & 0xFFFFFFFF, info >> 32, signed(addend), part[2]))
+            elif table is not None and re.match(r"\s*\d+: [0-9a-f]{16} ", line):
+                name = part[7].split("@")[0] if len(part) > 7 else ""
+                symbol = (int(part[1], 16), int(part[2], 0), part[3], part[4], part[6], name)
+                table[int(part[0][:-1]) if table is self.dynsym else name] = symbol
+        self.loads = [h for h in self.headers if h[0] == "LOAD"]
+        # The relocation table of DT_RELA alone: readelf lists the PLT's after it.
+        size = self.tag(8)
+        self.rela = self.words[: (size or 0) // 24]
+
+    def tag(self, number):
+        values = [v for t, v in self.dynamic if t == number]
+        return values[0] if values else None
+
+    def image(self, length):
+        """Memory before relocation."""
+        memory = bytearray(length)
+        for _, offset, vaddr, filesz, *_ in self.loads:
+            memory[vaddr:vaddr + filesz] = self.bytes[offset:offset + filesz]
+        return memory
+
+    def end(self):
+        return max(h[2] + h[4] for h in self.loads)
+
+    def globals(self):
+        """(address, bytes) of each descriptor: distance and size in granules, ULEB128, as the ABI's encoder wrote them."""
+        start, size = self.tag(GLOBALS), self.tag(GLOBALSSZ)
+        if start is None:
+            return []
+        table = iter(self.image(self.end())[start:start + size])
+        found, last = [], 0
+        for byte in table:
+            first = uleb(byte, table)
+            granules = first & 7 or uleb(next(table), table) + 1
+            address = last + (first >> 3) * 16
+            last = address + granules * 16
+            found.append((address, granules * 16))
+        return found
+
+
+def signed(word):
+    """LLVM's readelf writes some negative addends as 64-bit words."""
+    return word - (1 << 64) if word >> 63 == 1 else word
+
+
+def uleb(byte, rest):
+    value, shift = byte & 127, 7
+    while byte & 128:
+        byte = next(rest)
+        value |= (byte & 127) << shift
+        shift += 7
+    return value
+
+
+def expected(m, bias, length, choices):
+    """Memory and plane after a load."""
+    plane = bytearray(length // 16)
+    for (address, size), choice in zip(m.globals(), choices):
+        for granule in range(address // 16, (address + size) // 16):
+            plane[granule] = choice
+    raw = m.image(length)
+    memory = bytearray(raw)
+    for place, kind, index, addend, _ in m.rela:
+        if kind == RELATIVE:
+            address = bias + addend
+            source = (address + int.from_bytes(raw[place:place + 8], "little")) & MASK
+        else:
+            value, _, _, bind, section, _ = m.dynsym[index]
+            weak = bind == "WEAK" and section == "UND"
+            address = addend if weak else bias + value + addend
+            source = None if weak else bias + value
+        inside = source is not None and bias <= source < bias + length
+        word = address | (plane[(source - bias) // 16] if inside else 0) << 56
+        memory[place:place + 8] = word.to_bytes(8, "little")
+    return bytes(memory), bytes(plane)
+
+
+class Loader:
+    def __init__(self, command, scratch):
+        self.command, self.out = command, os.path.join(scratch, "dump")
+
+    def load(self, path, bias, length, plane, choices):
+        """Answer, answer of examine, facts, memory and plane."""
+        words = [path, str(bias), str(length), str(plane), bytes(choices).hex() or "-", self.out]
+        run = subprocess.run(self.command + words, capture_output=True, text=True)
+        expect(run.returncode == 0, f"{path}: the loading program ended with {run.returncode}")
+        answers = [int(x) for x in run.stdout.split()]
+        return (*answers, open(self.out + ".memory", "rb").read(), open(self.out + ".plane", "rb").read())
+
+    def refusal(self, what, path, bias, length, plane, choices, number, position, examined=None):
+        """Expects a refusal with nothing written. examined: what examine answers, where it takes the file."""
+        answer, examine, facts, memory, tags = self.load(path, bias, length, plane, choices)
+        expect(answer == position * 256 + number, f"{what}: refusal {number} at {position} expected, {answer & 255} at {answer >> 8} given")
+        expect(examine == (answer if examined is None else examined), f"{what}: examine answers {examine}")
+        expect((facts == 0) == (examined is None), f"{what}: facts {facts:#x}")
+        expect(memory == b"\xa5" * length and tags == b"\x5a" * plane, f"{what}: memory or plane was written")
+
+
+def facts_of(m):
+    """The number of hagolstan_facts, by the macros of the header: 1, mode, heap, stack, globals, words."""
+    switch = lambda v: 0 if v is None else v + 1
+    return (1 + (switch(m.tag(MODE)) << 2) + (switch(m.tag(HEAP)) << 4) + (switch(m.tag(STACK)) << 6)
+            + (len(m.globals()) << 16) + (sum(1 for r in m.rela if r[1]) << 32))
+
+
+def choose(count):
+    """Tags 1 to 15; neighbours differ."""
+    return [1 + 7 * i % 15 for i in range(count)]
+
+
+# What the C sources say: pointer variable -> global pointed into, and bytes from its start.
+POINTERS = {
+    "start": ("readings", 0), "middle": ("readings", 20), "end": ("readings", 32), "text_end": ("text", 16),
+    "scratch_middle": ("scratch", 17), "scratch_end": ("scratch", 48), "table_start": ("table", 0),
+    "table_inside": ("table", 312), "table_end": ("table", 320), "before": ("table", -8),
+    "absent": (None, 0), "absent_far": (None, 16), "ends": ("readings", 32),
+}
+MEANT = {
+    "pointers": POINTERS, "pointers_norelro": POINTERS, "pointers_symbolic": POINTERS,
+    "nine_hour": {"log_at": ("lines", 0), "log_end": ("lines", 128), "age_at": ("age", 0), "temperature_at": ("temperature", 0)},
+    "far": {"far_before": ("table", -0x100000)},
+    "asynchronous": {"level_at": ("level", 0)},
+    "untagged": {"values_end": ("values", 16), "shared_at": ("shared_value", 0)},
+    "empty": {}, "called_symbolic": {},
+}
+
+
+def check_meaning(m, memory, bias, choices):
+    """Each pointer of the C source: the address it means, with the tag of the global it is made from."""
+    tags = {address: choice for (address, _), choice in zip(m.globals(), choices)}
+    for pointer, (target, offset) in MEANT[m.name.split("/")[1]].items():
+        place = m.symtab[pointer][0]
+        word = int.from_bytes(memory[place:place + 8], "little")
+        start = m.symtab[target][0] if target else None
+        meant = offset if target is None else (bias + start + offset) | tags.get(start, 0) << 56
+        expect(word == meant, f"{m.name}: {pointer} is {word:#x}, and {meant:#x} is meant")
+
+
+def check_taken(m, loader):
+    sizes = {symbol[0]: symbol[1] for symbol in m.symtab.values() if symbol[2] == "OBJECT"}
+    for address, size in m.globals():
+        expect(sizes.get(address) == size, f"{m.name}: no symbol has the address and size of the descriptor {address:#x}, {size}")
+    least = (m.end() + 15) // 16 * 16
+    choices = choose(len(m.globals()))
+    far = m.name.endswith("/far")
+    for bias in BIASES:
+        for length in (least, least + 4096):
+            what = f"{m.name} at {bias:#x}"
+            if far and bias == 0:
+                loader.refusal(what, m.path, 0, length, length // 16, choices, 13, 0, len(choices) * 256)
+                continue
+            answer, examine, facts, memory, plane = loader.load(m.path, bias, length, length // 16, choices)
+            expect(answer == len(choices) * 256, f"{what}: answer {answer & 255} at {answer >> 8}")
+            expect(examine == answer and facts == facts_of(m), f"{what}: examine {examine}, facts {facts:#x}, expected {facts_of(m):#x}")
+            wanted_memory, wanted_plane = expected(m, bias, length, choices)
+            expect(plane == wanted_plane, f"{what}: the tag plane differs")
+            expect(memory == wanted_memory, f"{what}: memory differs")
+            check_meaning(m, memory, bias, choices)
+
+
+def check_late_refusals(m, loader):
+    """12 and 14, by what is lent with a good module."""
+    found, bias = m.globals(), BIASES[0]
+    length, choices = (m.end() + 15) // 16 * 16, choose(len(found))
+    taken, count = len(found) * 256, len(found)
+    bad = lambda i, tag: choices[:i] + [tag] + choices[i + 1:]
+    abut = next(i for i in range(1, count) if found[i][0] == sum(found[i - 1]))
+    for what, arguments, number, position in [
+        ("memory too short", (bias, length - 16, length // 16 - 1, choices), 12, 0),
+        ("memory not of granules", (bias, length + 8, length // 16, choices), 12, 0),
+        ("memory too long", (bias, LIMIT + 16, LIMIT // 16 + 1, choices), 12, 0),
+        ("plane too long", (bias, length, length // 16 + 1, choices), 12, 0),
+        ("bias inside a page", (bias + 0x800, length, length // 16, choices), 12, 0),
+        ("bias too high", (1 << 48, length, length // 16, choices), 12, 0),
+        ("a choice too few", (bias, length, length // 16, choices[:-1]), 14, count),
+        ("a choice too many", (bias, length, length // 16, choices + [1]), 14, count),
+        ("choice 0", (bias, length, length // 16, bad(2, 0)), 14, 2),
+        ("choice 16", (bias, length, length // 16, bad(count - 1, 16)), 14, count - 1),
+        ("equal neighbours", (bias, length, length // 16, bad(abut, choices[abut - 1])), 14, abut),
+    ]:
+        loader.refusal(f"{m.name}, {what}", m.path, *arguments, number, position, taken)
+
+
+def first(entries, test):
+    return next(i for i, entry in enumerate(entries) if test(entry))
+
+
+# Refused modules: number, and where to find the position in readelf's lists.
+REFUSED = {
+    "refused_long": (1, lambda m: 0),
+    "refused_class": (2, lambda m: 4),
+    "refused_order": (2, lambda m: 5),
+    "refused_machine": (3, lambda m: 0),
+    "refused_program": (3, lambda m: 0),
+    "refused_object": (3, lambda m: 0),
+    "refused_large": (4, lambda m: first(m.headers, lambda h: h[0] == "LOAD" and h[2] + h[4] > LIMIT)),
+    "refused_call": (6, lambda m: first(m.dynamic, lambda d: d[0] == 23)),
+    "refused_ifunc": (6, lambda m: first(m.dynamic, lambda d: d[0] == 23)),
+    "refused_relr": (6, lambda m: first(m.dynamic, lambda d: d[0] == 36)),
+    "refused_many_words": (7, lambda m: 0),
+    "refused_many_globals": (9, lambda m: 1024),
+    "refused_tls": (10, lambda m: first(m.rela, lambda r: r[4] == "R_AARCH64_TLSDESC")),
+    "refused_undefined": (10, lambda m: first(m.rela, lambda r: m.dynsym[r[2]][4] == "UND")),
+    "refused_place": (11, lambda m: first(m.rela, lambda r: r[0] % 8)),
+    "refused_text": (11, lambda m: first(m.rela, lambda r: any(h[2] <= r[0] < h[2] + h[4] and not h[5] for h in m.loads))),
+}
+
+
+def check_nine_hour(m, loader):
+    """The log's end is the counter's address, and carries the log's tag and not the counter's."""
+    length, choices = (m.end() + 15) // 16 * 16, choose(len(m.globals()))
+    _, _, _, memory, plane = loader.load(m.path, BIASES[0], length, length // 16, choices)
+    lines, age, pointer = (m.symtab[name][0] for name in ("lines", "age", "log_end"))
+    word = int.from_bytes(memory[pointer:pointer + 8], "little")
+    expect(word & (1 << 56) - 1 == BIASES[0] + age, f"{m.name}: the counter does not stand behind the log")
+    expect(word >> 56 == plane[lines // 16] != plane[age // 16], f"{m.name}: the log's end carries tag {word >> 56}")
+
+
+def main():
+    readelf, scratch, folder, _, *command = sys.argv[1:]
+    loader = Loader(command, scratch)
+    modules = [Module(readelf, os.path.join(at, name)) for at, _, names in sorted(os.walk(folder)) for name in sorted(names) if name.endswith(".so")]
+    seen = set()
+    for m in modules:
+        name = m.name.split("/")[1]
+        seen.add(name)
+        if name in REFUSED:
+            number, position = REFUSED[name]
+            loader.refusal(m.name, m.path, BIASES[0], 0x80000, 0x8000, [], number, position(m))
+        else:
+            check_taken(m, loader)
+        if name == "pointers":
+            check_late_refusals(m, loader)
+        if name == "nine_hour":
+            check_nine_hour(m, loader)
+    expect(seen == set(REFUSED) | set(MEANT), f"modules missing: {sorted((set(REFUSED) | set(MEANT)) ^ seen)}")
+    print(f"{len(modules)} modules, {checks} checks")
+
+
+main()
