@@ -1,4 +1,4 @@
-/* No global of its own is tagged but one, and no end pointer: linked with asynchronous mode, heap and stack off. */
+/* Linked with asynchronous mode, heap and stack on. */
 
 static long level = 42;
 long *level_at = &level;

@@ -138,7 +138,7 @@ class Loader:
     def load(self, path, bias, length, plane, choices):
         """Answer, answer of examine, facts, memory and plane."""
         words = [path, str(bias), str(length), str(plane), bytes(choices).hex() or "-", self.out]
-        run = subprocess.run(self.command + words, capture_output=True, text=True)
+        run = subprocess.run(self.command + words, capture_output=True, text=True, timeout=20)
         expect(run.returncode == 0, f"{path}: the loading program ended with {run.returncode}")
         answers = [int(x) for x in run.stdout.split()]
         return (*answers, open(self.out + ".memory", "rb").read(), open(self.out + ".plane", "rb").read())
