@@ -51,7 +51,7 @@ class Module:
                 rest = line[line.index(")") + 1:].split()
                 value = int(rest[0], 0) if re.match(r"(0x[0-9a-f]+|\d+)$", rest[0]) else None
                 self.dynamic.append((int(part[0], 16), value))
-            elif re.match(r"[0-9a-f]{16}\s+[0-9a-f]{16} R_", line) and len(part) > 3:
+            elif re.match(r"[0-9a-f]{16}\s+[0-9a-f]{16} R_\S+\s+(-?[0-9a-f]+|.* [+-] [0-9a-f]+)$", line):
                 info = int(part[1], 16)
                 addend = int(part[-1], 16) * (-1 if part[-2] == "-" else 1)
                 self.words.append((int(part[0], 16), info & 0xFFFFFFFF, info >> 32, signed(addend), part[2]))
@@ -177,7 +177,8 @@ MEANT = {
     "far": {"far_before": ("table", -0x100000)},
     "asynchronous": {"level_at": ("level", 0)},
     "untagged": {"values_end": ("values", 16), "shared_at": ("shared_value", 0)},
-    "empty": {}, "called_symbolic": {},
+    "text_pic": {"value_at": ("value", 0)},
+    "empty": {}, "called_symbolic": {}, "called_hidden": {}, "globals_untagged": {}, "unseen": {},
 }
 
 
@@ -250,12 +251,18 @@ REFUSED = {
     "refused_program": (3, lambda m: 0),
     "refused_object": (3, lambda m: 0),
     "refused_large": (4, lambda m: first(m.headers, lambda h: h[0] == "LOAD" and h[2] + h[4] > LIMIT)),
+    "refused_base": (4, lambda m: first(m.headers, lambda h: h[0] == "LOAD" and h[2] + h[4] > LIMIT)),
+    "refused_rel": (6, lambda m: first(m.dynamic, lambda d: d[0] == 17)),
+    "refused_packed": (6, lambda m: first(m.dynamic, lambda d: d[0] == 0)),
+    "refused_copy": (6, lambda m: first(m.dynamic, lambda d: d[0] == 23)),
     "refused_call": (6, lambda m: first(m.dynamic, lambda d: d[0] == 23)),
     "refused_ifunc": (6, lambda m: first(m.dynamic, lambda d: d[0] == 23)),
     "refused_relr": (6, lambda m: first(m.dynamic, lambda d: d[0] == 36)),
     "refused_many_words": (7, lambda m: 0),
     "refused_many_globals": (9, lambda m: 1024),
     "refused_tls": (10, lambda m: first(m.rela, lambda r: r[4] == "R_AARCH64_TLSDESC")),
+    "refused_ifunc_symbolic": (10, lambda m: first(m.rela, lambda r: r[4].startswith("R_AARCH64_IRELATIV"))),
+    "refused_absolute": (10, lambda m: first(m.rela, lambda r: m.dynsym[r[2]][4] == "ABS")),
     "refused_undefined": (10, lambda m: first(m.rela, lambda r: m.dynsym[r[2]][4] == "UND")),
     "refused_place": (11, lambda m: first(m.rela, lambda r: r[0] % 8)),
     "refused_text": (11, lambda m: first(m.rela, lambda r: any(h[2] <= r[0] < h[2] + h[4] and not h[5] for h in m.loads))),
