@@ -242,6 +242,36 @@ def first(entries, test):
     return next(i for i, entry in enumerate(entries) if test(entry))
 
 
+def check_edits(m, loader, scratch):
+    """A good module with one thing spoiled: the refusals that no linker brings about, and the order of the others."""
+    header = lambda kind: first(m.headers, lambda h: h[0] == kind)
+    entry = lambda tag: first(m.dynamic, lambda d: d[0] == tag)
+    offset = lambda address: next(h[1] + address - h[2] for h in m.loads if h[2] <= address < h[2] + h[3])
+    put = lambda at, value, size: m.bytes[:at] + value.to_bytes(size, "little") + m.bytes[at + size:]
+    value_of = lambda tag: m.headers[header("DYNAMIC")][1] + 16 * entry(tag) + 8
+    table, rela, count = offset(m.tag(GLOBALS)), offset(m.tag(7)), len(m.globals())
+    last = table + m.tag(GLOBALSSZ) - 1
+    for what, data, number, position in [
+        ("63 bytes", m.bytes[:63], 1, 0),
+        ("another fourth byte", put(3, 0x47, 1), 2, 3),
+        ("version 2", put(20, 2, 4), 3, 0),
+        ("a PT_LOAD of no bytes", put(64 + 56 * header("LOAD") + 40, 0, 8), 4, header("LOAD")),
+        ("a second PT_DYNAMIC", put(64 + 56 * header("GNU_STACK"), 2, 4), 5, header("GNU_STACK")),
+        ("mode 2", put(value_of(MODE), 2, 8), 6, entry(MODE)),
+        ("symbols of 16 bytes", put(value_of(11), 16, 8), 6, entry(11)),
+        ("relocations outside", put(value_of(7), 0xF0000, 8), 7, 0),
+        ("descriptors outside", put(value_of(GLOBALS), 0xF0000, 8), 7, 1),
+        ("the last descriptor cut short", put(last, m.bytes[last] | 128, 1), 8, count - 1),
+        ("a global behind the module", put(table + 1, 0x7F, 1), 9, 0),
+        ("kind COPY", put(rela + 2 * 24 + 8, 1024, 8), 10, 2),
+        ("a place twice", put(rela + 24, m.rela[0][0], 8), 11, 1),
+    ]:
+        path = os.path.join(scratch, "edited.so")
+        with open(path, "wb") as out:
+            out.write(data)
+        loader.refusal(f"{m.name}, {what}", path, BIASES[0], 0x80000, 0x8000, [], number, position)
+
+
 # Refused modules: number, and where to find the position in readelf's lists.
 REFUSED = {
     "refused_long": (1, lambda m: 0),
@@ -252,6 +282,7 @@ REFUSED = {
     "refused_object": (3, lambda m: 0),
     "refused_large": (4, lambda m: first(m.headers, lambda h: h[0] == "LOAD" and h[2] + h[4] > LIMIT)),
     "refused_base": (4, lambda m: first(m.headers, lambda h: h[0] == "LOAD" and h[2] + h[4] > LIMIT)),
+    "refused_script": (5, lambda m: len(m.headers)),
     "refused_rel": (6, lambda m: first(m.dynamic, lambda d: d[0] == 17)),
     "refused_packed": (6, lambda m: first(m.dynamic, lambda d: d[0] == 0)),
     "refused_copy": (6, lambda m: first(m.dynamic, lambda d: d[0] == 23)),
@@ -294,6 +325,8 @@ def main():
             check_taken(m, loader)
         if name == "pointers":
             check_late_refusals(m, loader)
+        if m.name == "4096/pointers":
+            check_edits(m, loader, scratch)
         if name == "nine_hour":
             check_nine_hour(m, loader)
     expect(seen == set(REFUSED) | set(MEANT), f"modules missing: {sorted((set(REFUSED) | set(MEANT)) ^ seen)}")
