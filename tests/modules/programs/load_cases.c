@@ -1,9 +1,10 @@
-/* load_cases < load.cases: a line a case, in the form of load.answers (tests/vectors). */
+/* load_cases < load.cases: a line a case, in the form of load.answers (tests/vectors). A read or write past the end of a
+ * lent buffer ends the program. */
+#define _DEFAULT_SOURCE
 #include <stdio.h>
 #include <stdlib.h>
+#include "guard.h"
 #include "hagolstan.h"
-
-static uint8_t file[4 << 20], memory[4 << 20], plane[4 << 20], choices[1 << 16];
 
 static int get(uint64_t *value, int bytes)
 {
@@ -17,10 +18,10 @@ static int get(uint64_t *value, int bytes)
     return 1;
 }
 
-/* Reads a length and as many bytes. */
-static int get_bytes(uint8_t *bytes, size_t room, uint64_t *length)
+/* Reads a length and as many bytes, which end at end. */
+static int get_bytes(uint8_t *end, uint64_t *length)
 {
-    return get(length, 4) && *length <= room && fread(bytes, 1, *length, stdin) == *length;
+    return get(length, 4) && *length <= ROOM && fread(end - *length, 1, *length, stdin) == *length;
 }
 
 static uint32_t crc(const uint8_t *bytes, size_t length)
@@ -37,11 +38,14 @@ static uint32_t crc(const uint8_t *bytes, size_t length)
 int main(void)
 {
     static const char *const modes[] = {"absent", "sync", "async"}, *const switches[] = {"absent", "off", "on"};
+    uint8_t *file_end = guarded_end(), *memory_end = guarded_end(), *plane_end = guarded_end(), *choices_end = guarded_end();
     uint64_t file_length, bias, memory_length, plane_length, choices_length, last;
-    while (get_bytes(file, sizeof file, &file_length)) {
-        if (!get(&bias, 8) || !get(&memory_length, 4) || !get(&plane_length, 4) || memory_length > sizeof memory ||
-            plane_length > sizeof plane || !get_bytes(choices, sizeof choices, &choices_length) || !get(&last, 4))
+    while (get_bytes(file_end, &file_length)) {
+        if (!get(&bias, 8) || !get(&memory_length, 4) || !get(&plane_length, 4) || memory_length > ROOM ||
+            plane_length > ROOM || !get_bytes(choices_end, &choices_length) || !get(&last, 4))
             return 2;
+        uint8_t *file = file_end - file_length, *memory = memory_end - memory_length;
+        uint8_t *plane = plane_end - plane_length, *choices = choices_end - choices_length;
         for (size_t i = 0; i < memory_length; i++)
             memory[i] = (uint8_t)(i * 7 + 3);
         for (size_t i = 0; i < plane_length; i++)
