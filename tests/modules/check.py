@@ -178,7 +178,8 @@ MEANT = {
     "asynchronous": {"level_at": ("level", 0)},
     "untagged": {"values_end": ("values", 16), "shared_at": ("shared_value", 0)},
     "text_pic": {"value_at": ("value", 0)},
-    "empty": {}, "called_symbolic": {}, "called_hidden": {}, "globals_untagged": {}, "unseen": {},
+    "empty": {}, "called_symbolic": {}, "called_hidden": {}, "globals_untagged": {}, "copy_own": {}, "unseen": {},
+    "pointers_stripped": {},
 }
 
 
@@ -195,7 +196,7 @@ def check_meaning(m, memory, bias, choices):
 
 def check_taken(m, loader):
     sizes = {symbol[0]: symbol[1] for symbol in m.symtab.values() if symbol[2] == "OBJECT"}
-    for address, size in m.globals():
+    for address, size in m.globals() if m.symtab else []:
         expect(sizes.get(address) == size, f"{m.name}: no symbol has the address and size of the descriptor {address:#x}, {size}")
     least = (m.end() + 15) // 16 * 16
     choices = choose(len(m.globals()))
