@@ -1,11 +1,12 @@
 // Examine: checks 1 to 11 of a file, and the facts.
 ghost use mathlib.Core.Path.{_≡_};
 ghost use Rattle.rules.specs.Dynamic.{entryOf};
-ghost use Rattle.rules.specs.Examine.{modeOf, switchOf, factsOf, examinedOf};
-ghost use Rattle.rules.specs.Relocations.{relocationsCheck};
-ghost use Rattle.rules.specs.Answers.{ofAnswer, ofChecked};
+ghost use Rattle.rules.specs.Outcome.{good};
+ghost use Rattle.rules.specs.Examine.{moduleOf, modeOf, switchOf, factsOf, examinedOf};
+ghost use Rattle.rules.specs.Relocations.{wordsOf};
+ghost use Rattle.rules.specs.Answers.{ofAnswer, ofWalk};
+ghost use Rattle.relocations.specs.Walk.{walkOf};
 use rules::Answer;
-use rules::Checked;
 use rules::Entry;
 use rules::Facts;
 use rules::Mode;
@@ -13,6 +14,7 @@ use rules::Module;
 use rules::ModuleAnswer;
 use rules::Refusal;
 use rules::Switch;
+use rules::WalkAnswer;
 
 const DT_SYMTAB: u64 = 6;
 
@@ -54,19 +56,19 @@ fn switch_of(e: Entry) -> Switch
     Switch::On
 }
 
-// The facts of a module.
-pub fn facts_of(f: &[u8], m: Module) -> Facts
+// The facts of a module whose words the walk has counted.
+pub fn facts_of(f: &[u8], m: Module, words: u16) -> Facts
+    requires { ⌜ words ≡ wordsOf (now f) (m .relocations) ⌝ }
     ensures { λ v. ⌜ v ≡ factsOf (now (f .entry)) m ⌝ }
 {
     let d = m.dynamic;
-    let r = m.relocations;
     let globals = m.globals;
     Facts {
         mode: mode_of(dynamic::entry_of(f, d, MEMTAG_MODE)),
         heap: switch_of(dynamic::entry_of(f, d, MEMTAG_HEAP)),
         stack: switch_of(dynamic::entry_of(f, d, MEMTAG_STACK)),
         globals: globals,
-        words: relocations::count_words(f, r),
+        words: words,
     }
 }
 
@@ -78,14 +80,15 @@ pub fn symbols_of(f: &[u8], m: Module) -> Entry
     dynamic::entry_of(f, d, DT_SYMTAB)
 }
 
-// Checks 10 and 11 of a module.
-pub fn check_module(f: &[u8], m: Module) -> Checked
-    ensures { λ v. ⌜ ofChecked v ≡ relocationsCheck (now (f .entry)) (m .headers) (m .dynamic) (m .relocations) ⌝ }
+// Checks 10 and 11 of a module that was read, and what the walk finds besides by a bias.
+pub fn check_module(f: &[u8], m: Module, bias: u64) -> WalkAnswer
+    requires { ⌜ moduleOf (now f) ≡ good m ⌝ }
+    ensures { λ v. ⌜ ofWalk v ≡ walkOf (now (f .entry)) (m .headers) (entryOf (now (f .entry)) (m .dynamic) 6) (m .relocations) bias ⌝ }
 {
     let h = m.headers;
     let r = m.relocations;
     let symbols = symbols_of(f, m);
-    relocations::check_relocations(f, h, symbols, r)
+    relocations::check_relocations(f, h, symbols, r, bias)
 }
 
 // Checks 1 to 11, and the facts.
@@ -99,12 +102,13 @@ pub fn examine_file(f: &[u8]) -> Answer
         };
         return Answer::Refused(r);
     };
-    let checked = check_module(f, m);
-    let Checked::Passed = checked else {
-        let Checked::Refused(r) = checked else {
+    // No address is judged here, so any bias will do.
+    let walked = check_module(f, m, 0);
+    let WalkAnswer::Found(w) = walked else {
+        let WalkAnswer::Refused(r) = walked else {
             return Answer::Refused(NEVER);
         };
         return Answer::Refused(r);
     };
-    Answer::Taken(facts_of(f, m))
+    Answer::Taken(facts_of(f, m, w.words))
 }

@@ -5,7 +5,7 @@ ghost use Prim.Native.Nat.{_+_, _<_};
 ghost use lib.Dec.{leb};
 ghost use lib.ListN.{getD};
 ghost use Rattle.rules.specs.Headers.{sizeCheck, identification, wrongByte, identificationCheck, goodHeader, headerCheck, headersOf};
-ghost use Rattle.rules.specs.Segments.{headerAt, isLoad, powerBelow, aligned, goodLoad, loadsCheck, backs, backsAt, placeIn, placeOf, holds, holdsAt, inMemory};
+ghost use Rattle.rules.specs.Segments.{headerAt, isLoad, powerBelow, aligned, goodLoad, loadsCheck, backs, backsAt, placeIn, placeOf, holdsAt, inMemory};
 ghost use Rattle.rules.specs.Load.{loadsEnd};
 ghost use Rattle.rules.specs.Answers.{ofChecked, ofHeaders};
 use rules::Checked;
@@ -21,6 +21,8 @@ const FILE_LEAST: usize = 64;
 const FILE_LIMIT: usize = 1048576;
 
 const HEADER_LIMIT: u16 = 16;
+
+const HEADER_BYTES: usize = 56;
 
 const IDENTIFICATION: [u8; 7] = [0x7f, 0x45, 0x4c, 0x46, 2, 1, 1];
 
@@ -172,7 +174,7 @@ pub fn read_headers(f: &[u8]) -> HeadersAnswer
 pub fn header_at(f: &[u8], h: Headers, i: u16) -> Segment
     ensures { λ r. ⌜ r ≡ headerAt (now (f .entry)) h i ⌝ }
 {
-    let at = h.table as usize + 56 * (i as usize);
+    let at = h.table as usize + HEADER_BYTES * (i as usize);
     Segment {
         kind: reads::read32(f, at),
         flags: reads::read32(f, at + 4),
@@ -301,23 +303,6 @@ pub fn loads_end_within(f: &[u8], h: Headers, n: u64) -> bool
     fits
 }
 
-// The n bytes from a are inside a segment's file part.
-fn is_backing(a: u64, n: u64, s: Segment) -> bool
-    ensures { λ r. ⌜ r ≡ backs a n s ⌝ }
-{
-    let kind = s.kind;
-    let vaddr = s.vaddr;
-    let filesz = s.filesz;
-    let offset = s.offset;
-    reads::both(
-        kind == 1,
-        reads::both(
-            reads::holds_range(vaddr, filesz, a, n),
-            reads::sum_within(offset, filesz, FILE_LIMIT as u64),
-        ),
-    )
-}
-
 // Where bytes of a segment that backs them stand in the file.
 fn place_in(a: u64, n: u64, s: Segment) -> Place
     requires { ⌜ backs a n s ≡ true ⌝ }
@@ -326,11 +311,19 @@ fn place_in(a: u64, n: u64, s: Segment) -> Place
     Place::At((s.offset + (a - s.vaddr)) as u32)
 }
 
+// The n bytes from a are inside the file part of the segment of an index. Only the fields that are asked for are read.
 fn is_backing_at(f: &[u8], h: Headers, a: u64, n: u64, i: u16) -> bool
     ensures { λ r. ⌜ r ≡ backsAt (now (f .entry)) h a n i ⌝ }
 {
-    let s = header_at(f, h, i);
-    is_backing(a, n, s)
+    let at = h.table as usize + HEADER_BYTES * (i as usize);
+    if reads::read32(f, at) != 1 {
+        return false;
+    }
+    let filesz = reads::read64(f, at + 32);
+    reads::both(
+        reads::holds_range(reads::read64(f, at + 16), filesz, a, n),
+        reads::sum_within(reads::read64(f, at + 8), filesz, FILE_LIMIT as u64),
+    )
 }
 
 // Where the n bytes from a are backed.
@@ -347,28 +340,19 @@ pub fn place_of(f: &[u8], h: Headers, a: u64, n: u64) -> Place
     Place::Nowhere
 }
 
-// The n bytes from a are inside a segment's memory part, a writable one where that is asked.
-fn is_holding(write: bool, a: u64, n: u64, s: Segment) -> bool
-    ensures { λ r. ⌜ r ≡ holds write a n s ⌝ }
-{
-    let kind = s.kind;
-    let flags = s.flags;
-    let vaddr = s.vaddr;
-    let memsz = s.memsz;
-    if kind != 1 {
-        return false;
-    }
-    if write {
-        return reads::both(flags / 2 % 2 == 1, reads::holds_range(vaddr, memsz, a, n));
-    }
-    reads::holds_range(vaddr, memsz, a, n)
-}
-
+// The n bytes from a are inside the memory part of the segment of an index, a writable one where that is asked.
 fn is_holding_at(f: &[u8], h: Headers, write: bool, a: u64, n: u64, i: u16) -> bool
     ensures { λ r. ⌜ r ≡ holdsAt (now (f .entry)) h write a n i ⌝ }
 {
-    let s = header_at(f, h, i);
-    is_holding(write, a, n, s)
+    let at = h.table as usize + HEADER_BYTES * (i as usize);
+    if reads::read32(f, at) != 1 {
+        return false;
+    }
+    let held = reads::holds_range(reads::read64(f, at + 16), reads::read64(f, at + 40), a, n);
+    if write {
+        return reads::both(reads::read32(f, at + 4) / 2 % 2 == 1, held);
+    }
+    held
 }
 
 // The n bytes from a are inside the memory part of one PT_LOAD, a writable one where that is asked.

@@ -2,16 +2,19 @@
 ghost use mathlib.Core.Path.{_≡_};
 ghost use lib.ListN.{length};
 ghost use Rattle.rules.specs.Outcome.{good};
-ghost use Rattle.rules.specs.Examine.{moduleOf};
 ghost use Rattle.rules.specs.Load.{imageOf, loadedMemory, loadedPlane, loadOf, memoryAfter, planeAfter};
-ghost use Rattle.rules.specs.Answers.{ofChecked, ofAnswer};
+ghost use Rattle.rules.specs.Answers.{ofChecked, ofChosen, ofAnswer};
 ghost use Rattle.demands.specs.Demands.{Passes};
-ghost use Rattle.load.specs.Stages.{checksIn, factsAfter};
+ghost use Rattle.load.specs.Stages.{chosenOf, addressesFrom, lentIn, checkedIn, factsAfter};
 use rules::Answer;
 use rules::Checked;
+use rules::Chosen;
+use rules::ChosenAnswer;
+use rules::CountedAnswer;
 use rules::Module;
-use rules::ModuleAnswer;
+use rules::PartsAnswer;
 use rules::Refusal;
+use rules::WalkAnswer;
 
 // The answer of an arm that is never taken.
 const NEVER: Refusal = Refusal {
@@ -19,29 +22,109 @@ const NEVER: Refusal = Refusal {
     position: 0,
 };
 
-// Checks 10 to 14 of a module that was read.
-fn check_load(f: &[u8], m: Module, bias: u64, memory: u64, plane: u64, choices: &[u8]) -> Checked
-    requires { ⌜ moduleOf (now f) ≡ good m ⌝ }
-    ensures { λ v. ⌜ ofChecked v ≡ checksIn (now (f .entry)) m bias memory plane (now (choices .entry)) ⌝ }
+// Checks 1 to 9 of a file beside a list of choices.
+fn read_chosen(f: &[u8], choices: &[u8]) -> ChosenAnswer
+    ensures { λ v. ⌜ ofChosen v ≡ chosenOf (now (f .entry)) (now (choices .entry)) ⌝ }
+{
+    let read = elf::read_parts(f);
+    let PartsAnswer::Found(p) = read else {
+        let PartsAnswer::Refused(q) = read else {
+            return ChosenAnswer::Refused(NEVER);
+        };
+        return ChosenAnswer::Refused(q);
+    };
+    let h = p.headers;
+    let t = p.descriptors;
+    let walked = globals::walk_globals(f, h, t, choices);
+    let CountedAnswer::Found(n) = walked else {
+        let CountedAnswer::Refused(q) = walked else {
+            return ChosenAnswer::Refused(NEVER);
+        };
+        return ChosenAnswer::Refused(q);
+    };
+    let d = p.dynamic;
+    let relocations = p.relocations;
+    let m = Module {
+        headers: h,
+        dynamic: d,
+        relocations: relocations,
+        descriptors: t,
+        globals: n.globals,
+    };
+    ChosenAnswer::Found(Chosen {
+        read: m,
+        fault: n.fault,
+    })
+}
+
+// Check 13, where the walk of the entries found the first address out of range.
+fn check_addresses(entries: u16, outside: u16) -> Checked
+    ensures { λ v. ⌜ ofChecked v ≡ addressesFrom entries outside ⌝ }
+{
+    if outside == entries {
+        return Checked::Passed;
+    }
+    Checked::Refused(Refusal {
+        number: 13,
+        position: outside as u64,
+    })
+}
+
+// Checks 12 to 14 of a module, where the walks of its tables found the first address out of range and the first bad choice.
+fn check_lent(
+    f: &[u8],
+    m: Module,
+    outside: u16,
+    fault: u16,
+    bias: u64,
+    memory: u64,
+    plane: u64,
+    choices: &[u8],
+) -> Checked
+    ensures { λ v. ⌜ ofChecked v ≡ lentIn (now (f .entry)) m outside fault bias memory plane (length (now (choices .entry))) ⌝ }
 {
     let h = m.headers;
     let r = m.relocations;
-    let t = m.descriptors;
     let globals = m.globals;
-    let walked = examine::check_module(f, m);
-    let Checked::Passed = walked else {
-        return walked;
-    };
     let lent = placing::check_lending(f, h, memory, plane, bias);
     let Checked::Passed = lent else {
         return lent;
     };
-    let symbols = examine::symbols_of(f, m);
-    let addressed = placing::check_addresses(f, h, symbols, r, bias);
+    let addressed = check_addresses(r.entries, outside);
     let Checked::Passed = addressed else {
         return addressed;
     };
-    tags::check_choices(f, h, t, globals, choices)
+    tags::check_choices(globals, fault, choices)
+}
+
+// Checks 10 to 14 of a module that was read, and its facts.
+fn check_load(
+    f: &[u8],
+    m: Module,
+    fault: u16,
+    bias: u64,
+    memory: u64,
+    plane: u64,
+    choices: &[u8],
+) -> Answer
+    requires { ⌜ chosenOf (now f) (now choices) ≡ good (record { read = m; fault = fault }) ⌝ }
+    ensures { λ v. ⌜ ofAnswer v ≡ checkedIn (now (f .entry)) m bias memory plane (now (choices .entry)) ⌝ }
+{
+    let walked = examine::check_module(f, m, bias);
+    let WalkAnswer::Found(w) = walked else {
+        let WalkAnswer::Refused(q) = walked else {
+            return Answer::Refused(NEVER);
+        };
+        return Answer::Refused(q);
+    };
+    let lent = check_lent(f, m, w.outside, fault, bias, memory, plane, choices);
+    let Checked::Passed = lent else {
+        let Checked::Refused(q) = lent else {
+            return Answer::Refused(NEVER);
+        };
+        return Answer::Refused(q);
+    };
+    Answer::Taken(examine::facts_of(f, m, w.words))
 }
 
 // The writes of a load whose checks have passed: zeros and segments, then tags, then words.
@@ -72,20 +155,26 @@ pub fn load_module(
     ensures placed { λ _. ⌜ now (memory .exit) ≡ memoryAfter (loadOf (now (f .entry)) bias (length (now (memory .entry))) (length (now (plane .entry))) (now (choices .entry))) (now (memory .entry)) ⌝ }
     ensures tagged { λ _. ⌜ now (plane .exit) ≡ planeAfter (loadOf (now (f .entry)) bias (length (now (memory .entry))) (length (now (plane .entry))) (now (choices .entry))) (now (plane .entry)) ⌝ }
 {
-    let read = elf::read_module(f);
-    let ModuleAnswer::Found(m) = read else {
-        let ModuleAnswer::Refused(r) = read else {
+    let read = read_chosen(f, choices);
+    let ChosenAnswer::Found(chosen) = read else {
+        let ChosenAnswer::Refused(q) = read else {
             return Answer::Refused(NEVER);
         };
-        return Answer::Refused(r);
+        return Answer::Refused(q);
     };
-    let checked = check_load(f, m, bias, memory.len() as u64, plane.len() as u64, choices);
-    let Checked::Passed = checked else {
-        let Checked::Refused(r) = checked else {
-            return Answer::Refused(NEVER);
-        };
-        return Answer::Refused(r);
+    let m = chosen.read;
+    let checked = check_load(
+        f,
+        m,
+        chosen.fault,
+        bias,
+        memory.len() as u64,
+        plane.len() as u64,
+        choices,
+    );
+    let Answer::Taken(_) = checked else {
+        return checked;
     };
     write_load(f, m, bias, memory, plane, choices);
-    Answer::Taken(examine::facts_of(f, m))
+    checked
 }

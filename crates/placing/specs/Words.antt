@@ -11,7 +11,7 @@ use Rattle.rules.specs.Load.{natural, sourceTag}
 use Rattle.rules.specs.declared.Headers.{Headers}
 use Rattle.rules.specs.declared.Entry.{Entry}
 use Rattle.rules.specs.declared.Relocations.{Relocations}
-use Rattle.placing.specs.Addresses.{addressIn}
+use Rattle.relocations.specs.Addresses.{addressIn}
 
 -- the word of the entry of index i: its address, and its tag in bits 56 to 59
 unfoldable pub wordIn : List ℕ → Headers → Entry → Relocations → ℕ → List ℕ → List ℕ → ℕ → ℕ

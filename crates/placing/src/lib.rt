@@ -1,4 +1,4 @@
-// Checks 12 and 13, and the writes to memory: segments placed, words relocated.
+// Check 12, and the writes to memory: segments placed, words relocated.
 ghost use mathlib.Core.Path.{_≡_};
 ghost use mathlib.Core.Bool.{false, _&&_};
 ghost use Prim.Native.Nat.{_+_, _*_, _^_, _<_};
@@ -10,7 +10,7 @@ ghost use Rattle.rules.specs.Memory.{putWord};
 ghost use Rattle.rules.specs.Load.{memoryFits, planeFits, loadsEnd, putLoad, imageOf, sourceTag, writes};
 ghost use Rattle.rules.specs.Answers.{ofChecked};
 ghost use Rattle.laws.proofs.Writes.{Apart};
-ghost use Rattle.placing.specs.Addresses.{badAddressIn};
+ghost use Rattle.relocations.specs.Addresses.{badAddressIn};
 ghost use Rattle.placing.specs.Words.{wordIn, written};
 use rules::ADDRESS_LIMIT;
 use rules::Address;
@@ -73,40 +73,6 @@ pub fn check_lending(f: &[u8], h: Headers, memory: u64, plane: u64, bias: u64) -
         number: 12,
         position: 0,
     })
-}
-
-// Check 13, of one entry.
-fn is_bad_address(f: &[u8], h: Headers, symbols: Entry, r: Relocations, bias: u64, i: u16) -> bool
-    ensures { λ v. ⌜ v ≡ badAddressIn (now (f .entry)) h symbols r bias i ⌝ }
-{
-    let kind = relocations::kind_at(f, r, i);
-    if kind == 0 {
-        return false;
-    }
-    let symbol = relocations::symbol_at(f, r, i);
-    let t = relocations::find_target(f, h, symbols, kind, symbol);
-    let addend = relocations::addend_at(f, r, i);
-    let a = words::address_of(bias, t, addend);
-    let Address::At(_) = a else {
-        return true;
-    };
-    false
-}
-
-// Check 13: the relocated addresses, refused at the first bad one.
-pub fn check_addresses(f: &[u8], h: Headers, symbols: Entry, r: Relocations, bias: u64) -> Checked
-    ensures { λ v. ⌜ ofChecked v ≡ faultless 13 (badAddressIn (now (f .entry)) h symbols r bias) (r .entries) ⌝ }
-{
-    let n = r.entries;
-    for i in 0..n {
-        if is_bad_address(f, h, symbols, r, bias, i) {
-            return Checked::Refused(Refusal {
-                number: 13,
-                position: i as u64,
-            });
-        }
-    }
-    Checked::Passed
 }
 
 // A PT_LOAD's bytes of the file land from its address onward.

@@ -1,8 +1,8 @@
-// Total reads of a list of bytes, and exact comparisons of sums.
+// Total reads of a list of bytes, exact comparisons of sums, and the first index at which a test holds.
 ghost use mathlib.Core.Path.{_≡_};
-ghost use mathlib.Core.Bool.{_&&_};
+ghost use mathlib.Core.Bool.{cond, _&&_};
 ghost use Prim.Native.Nat.{_+_, _≤_, _<_};
-ghost use lib.Dec.{leb};
+ghost use lib.Dec.{leb, eqb};
 ghost use lib.ListN.{length, getD};
 ghost use Rattle.rules.specs.Bytes.{le, part};
 ghost use Rattle.rules.specs.Segments.{covers};
@@ -173,4 +173,19 @@ pub fn holds_range(start: u64, size: u64, a: u64, n: u64) -> bool
         return false;
     }
     a - start <= size - n
+}
+
+// The first of the indices up to i at which a test holds, from the first of those before i, and whether it holds at i. Where there
+// is none it is the number of indices.
+pub fn first_after(found: u16, i: u16, hit: bool) -> u16
+    requires { ⌜ i < 65535 ⌝ }
+    ensures { λ r. ⌜ r ≡ cond hit found (cond (eqb found i) (i + 1) found) ⌝ }
+{
+    if hit {
+        return found;
+    }
+    if found == i {
+        return i + 1;
+    }
+    found
 }

@@ -1,13 +1,14 @@
-// Checks 10 and 11: the relocation entries, their kinds, symbols and places.
+// Checks 10 and 11: the relocation entries, their kinds, symbols and places; and what check 13 and the facts need of them.
 ghost use mathlib.Core.Path.{_≡_};
-ghost use mathlib.Core.Bool.{cond, _||_};
+ghost use mathlib.Core.Bool.{cond, _&&_, _||_};
 ghost use Prim.Native.Nat.{_≤_};
 ghost use lib.Dec.{eqb};
-ghost use Rattle.rules.specs.Relocations.{placeAt, kindAt, symbolAt, addendAt, live, symbolPlace, symbolOf, targetOf, namedTarget, target, barred, placeFits, hasPlace, relocationsIn, wordsOf};
+ghost use Rattle.rules.specs.Relocations.{placeAt, kindAt, symbolAt, addendAt, live, symbolPlace, symbolOf, targetOf, namedTarget, target, targetIn, barred, placeFits};
+ghost use Rattle.rules.specs.Load.{addressOf, outOfRange};
 ghost use Rattle.rules.specs.Outcome.{refuse};
-ghost use Rattle.rules.specs.Answers.{ofChecked};
-ghost use Rattle.relocations.specs.Walk.{entryFault, rivalsFrom};
-use rules::Checked;
+ghost use Rattle.rules.specs.Answers.{ofWalk};
+ghost use Rattle.relocations.specs.Walk.{entryFault, keyAt, rivalsFrom, walkOf};
+use rules::Address;
 use rules::Entry;
 use rules::Headers;
 use rules::MEMORY_LIMIT;
@@ -16,6 +17,8 @@ use rules::Refusal;
 use rules::Relocations;
 use rules::Symbol;
 use rules::Target;
+use rules::WalkAnswer;
+use rules::Walked;
 
 const R_AARCH64_ABS64: u32 = 257;
 
@@ -32,6 +35,9 @@ const STB_WEAK: u8 = 2;
 const SHN_LORESERVE: u16 = 0xff00;
 
 const SYMBOL_BYTES: u64 = 24;
+
+// Kept for a skipped entry in the search for a repeated place: no place that fits.
+const SKIPPED: u64 = 1;
 
 // An entry's place.
 pub fn place_at(f: &[u8], r: Relocations, i: u16) -> u64
@@ -62,7 +68,7 @@ pub fn addend_at(f: &[u8], r: Relocations, i: u16) -> u64
 }
 
 // An entry is not skipped.
-pub fn is_live(f: &[u8], r: Relocations, i: u16) -> bool
+fn is_live(f: &[u8], r: Relocations, i: u16) -> bool
     ensures { λ v. ⌜ v ≡ live (now (f .entry)) r i ⌝ }
 {
     kind_at(f, r, i) != 0
@@ -180,16 +186,23 @@ fn place_fits(f: &[u8], h: Headers, p: u64) -> bool
     headers::in_memory(f, h, true, p, 8)
 }
 
+// What an entry refers to.
+fn target_at(f: &[u8], h: Headers, symbols: Entry, r: Relocations, i: u16) -> Target
+    ensures { λ v. ⌜ v ≡ targetIn (now (f .entry)) h symbols r i ⌝ }
+{
+    let kind = kind_at(f, r, i);
+    let symbol = symbol_at(f, r, i);
+    find_target(f, h, symbols, kind, symbol)
+}
+
 // Checks 10 and 11 of one entry, but for its place's earlier entries: 0, 10 or 11.
-fn entry_fault(f: &[u8], h: Headers, symbols: Entry, r: Relocations, i: u16) -> u8
-    ensures { λ v. ⌜ v ≡ entryFault (now (f .entry)) h symbols r i ⌝ }
+fn entry_fault(f: &[u8], h: Headers, r: Relocations, t: Target, i: u16) -> u8
+    ensures { λ v. ⌜ v ≡ entryFault (now (f .entry)) h r t i ⌝ }
 {
     let kind = kind_at(f, r, i);
     if kind == 0 {
         return 0;
     }
-    let symbol = symbol_at(f, r, i);
-    let t = find_target(f, h, symbols, kind, symbol);
     if is_barred(t) {
         return 10;
     }
@@ -200,60 +213,39 @@ fn entry_fault(f: &[u8], h: Headers, symbols: Entry, r: Relocations, i: u16) -> 
     11
 }
 
-fn rivals_from(f: &[u8], r: Relocations, i: u16) -> u16
-    ensures { λ v. ⌜ v ≡ rivalsFrom (now (f .entry)) r i ⌝ }
+// Check 13 of one entry.
+fn is_bad_address(f: &[u8], r: Relocations, bias: u64, t: Target, i: u16) -> bool
+    ensures { λ v. ⌜ v ≡ (live (now (f .entry)) r i && outOfRange (addressOf bias t (addendAt (now (f .entry)) r i))) ⌝ }
 {
-    if is_live(f, r, i) {
-        return 0;
+    let kind = kind_at(f, r, i);
+    if kind == 0 {
+        return false;
     }
-    i
-}
-
-// An entry that is not skipped has the place.
-fn has_place(f: &[u8], r: Relocations, p: u64, i: u16) -> bool
-    ensures { λ v. ⌜ v ≡ hasPlace (now (f .entry)) r p i ⌝ }
-{
-    if place_at(f, r, i) == p {
-        return is_live(f, r, i);
-    }
+    let addend = addend_at(f, r, i);
+    let a = words::address_of(bias, t, addend);
+    let Address::At(_) = a else {
+        return true;
+    };
     false
 }
 
-fn refused(number: u8, i: u16) -> Checked
-    ensures { λ v. ⌜ ofChecked v ≡ refuse number i ⌝ }
+// What the search for a repeated place keeps of an entry.
+fn key_at(f: &[u8], r: Relocations, i: u16) -> u64
+    ensures { λ v. ⌜ v ≡ keyAt (now (f .entry)) r i ⌝ }
 {
-    let r = Refusal {
-        number: number,
-        position: i as u64,
-    };
-    Checked::Refused(r)
+    if is_live(f, r, i) {
+        return place_at(f, r, i);
+    }
+    SKIPPED
 }
 
-// Checks 10 and 11: the entries in table order, each against the places of the entries before it.
-pub fn check_relocations(f: &[u8], h: Headers, symbols: Entry, r: Relocations) -> Checked
-    ensures { λ v. ⌜ ofChecked v ≡ relocationsIn (now (f .entry)) h symbols r ⌝ }
+fn rivals_from(key: u64, i: usize) -> usize
+    ensures { λ v. ⌜ v ≡ rivalsFrom key i ⌝ }
 {
-    let n = r.entries;
-    let mut i: u16 = 0;
-    'entries: while i < n {
-        let number = entry_fault(f, h, symbols, r, i);
-        if number != 0 {
-            return refused(number, i);
-        }
-        let place = place_at(f, r, i);
-        let mut j = rivals_from(f, r, i);
-        while j < i {
-            if has_place(f, r, place, j) {
-                break 'entries;
-            }
-            j += 1;
-        }
-        i += 1;
+    if key == SKIPPED {
+        return i;
     }
-    if i < n {
-        return refused(11, i);
-    }
-    Checked::Passed
+    0
 }
 
 fn one_if(b: bool) -> u16
@@ -262,14 +254,58 @@ fn one_if(b: bool) -> u16
     if b { 1 } else { 0 }
 }
 
-// How many words are relocated.
-pub fn count_words(f: &[u8], r: Relocations) -> u16
-    ensures { λ v. ⌜ v ≡ wordsOf (now (f .entry)) r ⌝ }
+fn refused(number: u8, i: u16) -> WalkAnswer
+    ensures { λ v. ⌜ ofWalk v ≡ refuse number i ⌝ }
+{
+    let r = Refusal {
+        number: number,
+        position: i as u64,
+    };
+    WalkAnswer::Refused(r)
+}
+
+// Checks 10 and 11: the entries in table order, each against the places of the entries before it. The same walk counts the
+// words and finds the first address out of range, which is refused later.
+pub fn check_relocations(
+    f: &[u8],
+    h: Headers,
+    symbols: Entry,
+    r: Relocations,
+    bias: u64,
+) -> WalkAnswer
+    requires { ⌜ r .entries ≤ 1024 ⌝ }
+    ensures { λ v. ⌜ ofWalk v ≡ walkOf (now (f .entry)) h symbols r bias ⌝ }
 {
     let n = r.entries;
+    let mut keys = [0u64; 1024];
     let mut words: u16 = 0;
-    for i in 0..n {
+    let mut outside: u16 = 0;
+    let mut i: u16 = 0;
+    'entries: while i < n {
+        let t = target_at(f, h, symbols, r, i);
+        let number = entry_fault(f, h, r, t, i);
+        if number != 0 {
+            return refused(number, i);
+        }
+        let key = key_at(f, r, i);
+        let end = i as usize;
+        let mut j = rivals_from(key, end);
+        while j < end {
+            if keys[j] == key {
+                break 'entries;
+            }
+            j += 1;
+        }
+        keys[end] = key;
         words += one_if(is_live(f, r, i));
+        outside = reads::first_after(outside, i, is_bad_address(f, r, bias, t, i));
+        i += 1;
     }
-    words
+    if i < n {
+        return refused(11, i);
+    }
+    WalkAnswer::Found(Walked {
+        words: words,
+        outside: outside,
+    })
 }

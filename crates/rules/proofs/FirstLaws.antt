@@ -4,10 +4,10 @@ use Prim.Native.Nat.{ℕ, zero, suc, _+_, _-_, _≤_, _<_}
 use mathlib.Core.Path.{_≡_, refl, sym, ap, _∙_}
 use mathlib.Core.Bool.{Bool, true, false, cond}
 use mathlib.Core.Logic.{⊎-elim}
-use native.Mathlib.Nat.{eq-or-lt-of-le}
+use native.Mathlib.Nat.{eq-or-lt-of-le, add-zero, zero-add}
 use native.Mathlib.Numerals.{add-one}
 use native.Mathlib.Omega.{arith}
-use lib.Dec.{ltb}
+use lib.Dec.{ltb, eqb}
 use borrow.Author.Tests.{lt-ltb, le-ltb, eq-eqb, ne-eqb}
 use Rattle.rules.specs.Outcome.{good, refuse}
 use Rattle.rules.specs.First.{first, someBelow, countBelow, faultless}
@@ -80,6 +80,26 @@ module _ (f : ℕ → Bool) where
 
   pub some-none : (n : ℕ) → first f 0 n ≡ n → someBelow f n ≡ false
   some-none n e = le-ltb (first f 0 n) n (omega arith)
+
+  -- for a loop whose invariant is that its answer so far is first f 0 i
+  first-more : (k i : ℕ) → first f i (suc k) ≡ cond (f (i + k)) (first f i k) (cond (eqb (first f i k) (i + k)) (i + k + 1) (first f i k))
+  unfolding first
+  first-more zero i = rw (add-zero, eq-eqb i i refl)
+  first-more (suc k) i = go (f i) (first-more k (i + 1))
+    where
+      go : (b : Bool)
+          → first f (i + 1) (suc k) ≡ cond (f (i + 1 + k)) (first f (i + 1) k) (cond (eqb (first f (i + 1) k) (i + 1 + k)) (i + 1 + k + 1) (first f (i + 1) k))
+          → cond b i (first f (i + 1) (suc k))
+          ≡ cond (f (i + suc k)) (cond b i (first f (i + 1) k)) (cond (eqb (cond b i (first f (i + 1) k)) (i + suc k)) (i + suc k + 1) (cond b i (first f (i + 1) k)))
+      go true h = rw (ne-eqb i (i + suc k) (λ q. omega arith)) (same (f (i + suc k)))
+        where
+          same : (b : Bool) → i ≡ cond b i i
+          same true = refl
+          same false = refl
+      go false h = let e : i + 1 + k ≡ i + suc k = omega arith in rw (e) at h
+
+  pub first-next : (i : ℕ) → first f 0 (i + 1) ≡ cond (f i) (first f 0 i) (cond (eqb (first f 0 i) i) (i + 1) (first f 0 i))
+  first-next i = rw add-one (rw (zero-add, add-one) at (first-more i 0))
 
   pub count-le : (n : ℕ) → countBelow f n ≤ n
   unfolding countBelow

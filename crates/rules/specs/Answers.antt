@@ -30,10 +30,22 @@ use Rattle.rules.specs.declared.Step.{Step}
 use Rattle.rules.specs.declared.Step.the-variants as step
 use Rattle.rules.specs.declared.GlobalsAnswer.{GlobalsAnswer}
 use Rattle.rules.specs.declared.GlobalsAnswer.the-variants as globals
+use Rattle.rules.specs.declared.Counted.{Counted}
+use Rattle.rules.specs.declared.CountedAnswer.{CountedAnswer}
+use Rattle.rules.specs.declared.CountedAnswer.the-variants as counted
+use Rattle.rules.specs.declared.Parts.{Parts}
+use Rattle.rules.specs.declared.PartsAnswer.{PartsAnswer}
+use Rattle.rules.specs.declared.PartsAnswer.the-variants as parts
 use Rattle.rules.specs.declared.ModuleAnswer.{ModuleAnswer}
 use Rattle.rules.specs.declared.ModuleAnswer.the-variants as module-answer
+use Rattle.rules.specs.declared.Chosen.{Chosen}
+use Rattle.rules.specs.declared.ChosenAnswer.{ChosenAnswer}
+use Rattle.rules.specs.declared.ChosenAnswer.the-variants as chosen
 use Rattle.rules.specs.declared.Answer.{Answer}
 use Rattle.rules.specs.declared.Answer.the-variants as answer
+use Rattle.rules.specs.declared.Walked.{Walked}
+use Rattle.rules.specs.declared.WalkAnswer.{WalkAnswer}
+use Rattle.rules.specs.declared.WalkAnswer.the-variants as walk
 use Rattle.rules.specs.declared.Address.{Address}
 use Rattle.rules.specs.declared.Address.the-variants as address
 
@@ -71,13 +83,29 @@ abbrev pub countOf : Outcome (List Global) → Outcome ℕ
 countOf (good gs) = good (length gs)
 countOf (bad r) = bad r
 
+abbrev pub ofCounted : CountedAnswer → Outcome Counted
+ofCounted (counted.Found n) = good n
+ofCounted (counted.Refused r) = bad r
+
+abbrev pub ofParts : PartsAnswer → Outcome Parts
+ofParts (parts.Found p) = good p
+ofParts (parts.Refused r) = bad r
+
 abbrev pub ofModule : ModuleAnswer → Outcome Module
 ofModule (module-answer.Found m) = good m
 ofModule (module-answer.Refused r) = bad r
 
+abbrev pub ofChosen : ChosenAnswer → Outcome Chosen
+ofChosen (chosen.Found c) = good c
+ofChosen (chosen.Refused r) = bad r
+
 abbrev pub ofAnswer : Answer → Outcome Facts
 ofAnswer (answer.Taken a) = good a
 ofAnswer (answer.Refused r) = bad r
+
+abbrev pub ofWalk : WalkAnswer → Outcome Walked
+ofWalk (walk.Found w) = good w
+ofWalk (walk.Refused r) = bad r
 
 -- an address that is not below 0 and below 2^48
 abbrev pub inRange : ℤ → Address

@@ -90,6 +90,14 @@ pub struct Cursor {
     pub end: u64,
 }
 
+// What the ELF reader finds in a file that passes checks 1 to 7.
+pub struct Parts {
+    pub headers: Headers,
+    pub dynamic: Dynamic,
+    pub relocations: Relocations,
+    pub descriptors: Descriptors,
+}
+
 // What the ELF reader finds in a file that passes checks 1 to 9.
 pub struct Module {
     pub headers: Headers,
@@ -183,15 +191,58 @@ pub enum GlobalsAnswer {
     Refused(Refusal),
 }
 
+// What the walk of checks 8 and 9 finds beside a list of choices: how many globals the table lists, and the first whose choice
+// is bad, or their number where there is none.
+pub struct Counted {
+    pub globals: u16,
+    pub fault: u16,
+}
+
+pub enum CountedAnswer {
+    Found(Counted),
+    Refused(Refusal),
+}
+
+// The answer of the ELF reader, checks 1 to 7.
+pub enum PartsAnswer {
+    Found(Parts),
+    Refused(Refusal),
+}
+
 // The answer of the ELF reader, checks 1 to 9.
 pub enum ModuleAnswer {
     Found(Module),
     Refused(Refusal),
 }
 
+// What a load reads of a file that passes checks 1 to 9: the module, and the first global whose choice is bad, or their number
+// where there is none.
+pub struct Chosen {
+    pub read: Module,
+    pub fault: u16,
+}
+
+pub enum ChosenAnswer {
+    Found(Chosen),
+    Refused(Refusal),
+}
+
 // The answer of examine, checks 1 to 11, and of the load, checks 1 to 14.
 pub enum Answer {
     Taken(Facts),
+    Refused(Refusal),
+}
+
+// What the walk of the relocation entries finds besides: how many words are relocated, and the first entry whose address is
+// out of range, or the number of entries where there is none.
+pub struct Walked {
+    pub words: u16,
+    pub outside: u16,
+}
+
+// The answer of checks 10 and 11.
+pub enum WalkAnswer {
+    Found(Walked),
     Refused(Refusal),
 }
 

@@ -1,20 +1,17 @@
 -- Check 14 and the plane, one global at a time.
 -- Assumes nothing.
-use Prim.Native.Nat.{ℕ, zero, suc, _+_, _-_, _/_, _≤_, _<_}
+use Prim.Native.Nat.{ℕ, _+_, _-_, _/_, _<_}
 use mathlib.Core.Path.{_≡_, refl, sym, _∙_}
-use mathlib.Core.Bool.{Bool, true, false}
 use mathlib.Core.List.{List}
-use native.Mathlib.Nat.{sub-zero}
-use native.Mathlib.Numerals.{add-one, sub-one}
+use native.Mathlib.Numerals.{add-one}
 use native.Mathlib.Omega.{arith}
 use lib.ListN.{length, getD, replicate}
-use borrow.Author.Tests.{eq-eqb, ne-eqb}
-use Rattle.rules.specs.Outcome.{Outcome, good, bad, refuse}
+use Rattle.rules.specs.Outcome.{Outcome, good, bad}
 use Rattle.rules.specs.Limits.{granule}
 use Rattle.rules.specs.First.{first}
 use Rattle.rules.specs.Memory.{put}
 use Rattle.rules.specs.Descriptors.{global, stepAt, tableStart, descriptorTable, globalsOf}
-use Rattle.rules.specs.Load.{listOf, globalAt, endOf, badChoice, choicesCheck, tagged, planeOf}
+use Rattle.rules.specs.Load.{listOf, globalAt, badChoice, choicesCheck, tagged, planeOf}
 use Rattle.rules.specs.Answers.{ofStep, countOf}
 use Rattle.rules.specs.declared.Headers.{Headers}
 use Rattle.rules.specs.declared.Descriptors.{Descriptors}
@@ -22,9 +19,8 @@ use Rattle.rules.specs.declared.Global.{Global}
 use Rattle.rules.specs.declared.Cursor.{Cursor}
 use Rattle.rules.specs.declared.Step.{Step}
 use Rattle.rules.specs.declared.Step.the-variants as step
-use Rattle.rules.proofs.FirstLaws.{first-step, first-hit, first-none, faultless-hit, faultless-none}
 use Rattle.laws.proofs.Globals.{Walk, walk-start, walk-step, walk-global}
-use Rattle.tags.specs.Choice.{badAfter}
+use Rattle.tags.specs.Choices.{choicesFrom}
 
 -- ---- the walk over a table's globals
 
@@ -63,65 +59,11 @@ module _ {f : List ℕ} {h : Headers} {s : List ℕ} {gs : List Global} {i : ℕ
 
 -- ---- check 14
 
--- the test on plain numbers is the rule's
-pub bad-after : (gs : List Global) (choices : List ℕ) (i end last : ℕ) → (0 < i → end ≡ endOf (globalAt gs (i - 1)))
-    → (0 < i → last ≡ getD choices (i - 1) 0) → badAfter i end last (globalAt gs i .start) (getD choices i 0) ≡ badChoice gs choices i
-unfolding badAfter badChoice
-bad-after gs choices zero end last h k = refl
-bad-after gs choices (suc i) end last h k =
-    let e = h (omega arith) in
-    let l = k (omega arith) in
-    rw (e, l, sub-one, ne-eqb (suc i) 0 (λ q. omega arith))
-
--- the answer to another number of choices
-pub choices-number : (x : Outcome (List Global)) (choices : List ℕ) (n : ℕ) → countOf x ≡ good n → (length choices ≡ n → ⊥)
-    → choicesCheck (listOf x) choices ≡ refuse 14 n
-unfolding choicesCheck
-choices-number x choices n e ne = let k = counted x n e .1 in rw (k, ne-eqb (length choices) n ne)
-
-module _ (gs : List Global) (choices : List ℕ) where
-  -- to a bad choice, and to none
-  pub choices-hit : (i : ℕ) → length choices ≡ length gs → first (badChoice gs choices) 0 (length gs) ≡ i → i < length gs
-      → choicesCheck gs choices ≡ refuse 14 i
-  unfolding choicesCheck
-  choices-hit i m e l = rw (m, eq-eqb (length gs) (length gs) refl) (faultless-hit 14 (badChoice gs choices) (length gs) i e l)
-
-  pub choices-none : length choices ≡ length gs → first (badChoice gs choices) 0 (length gs) ≡ length gs → choicesCheck gs choices ≡ good tt
-  unfolding choicesCheck
-  choices-none m e = rw (m, eq-eqb (length gs) (length gs) refl) (faultless-none 14 (badChoice gs choices) (length gs) e)
-
--- what the check keeps at the index i
-pub record Checks (f : List ℕ) (h : Headers) (s : List ℕ) (gs : List Global) (choices : List ℕ) (i : ℕ) (c : Cursor) (last : ℕ) : Type 0 where
-  pub walk : Walk f h s gs i c
-  pub choice : 0 < i → last ≡ getD choices (i - 1) 0
-  pub faults : first (badChoice gs choices) 0 (length gs) ≡ first (badChoice gs choices) i (length gs - i)
-
-pub check-start : {f : List ℕ} {h : Headers} {s : List ℕ} {gs : List Global} {choices : List ℕ} {last : ℕ} → Walk f h s gs 0 tableStart
-    → Checks f h s gs choices 0 tableStart last
-check-start w = record { walk = w; choice = λ z. absurd (omega arith); faults = rw sub-zero }
-
--- one turn, with the global that was read and its choice
-module _ {f : List ℕ} {h : Headers} {s : List ℕ} {gs : List Global} {choices : List ℕ} {i : ℕ} {c : Cursor} {last : ℕ}
-    (k : Checks f h s gs choices i c last) where
-  pub check-end : length choices ≡ length gs → i ≤ length gs → length gs ≤ i → choicesCheck gs choices ≡ good tt
-  check-end m l n = choices-none gs choices m (k .faults ∙ first-none (badChoice gs choices) i (length gs) l n)
-
-  module _ {st : Step} {g : Global} {next : Cursor} {choice : ℕ} {r : Bool} (e : ofStep st ≡ stepAt i s c) (q : st ≡ step.Global g next)
-      (b : choice ≡ getD choices i 0) (j : r ≡ badAfter i (c .end) last (g .start) choice) (l : i < length gs) where
-    judged : r ≡ badChoice gs choices i
-    judged = j ∙ rw (reads-this (k .walk) l e q .0, b) (bad-after gs choices i (c .end) last (k .walk .last) (k .choice))
-
-    pub check-bad : r ≡ true → length choices ≡ length gs → choicesCheck gs choices ≡ refuse 14 i
-    check-bad t m = choices-hit gs choices i m (k .faults ∙ first-hit (badChoice gs choices) i (length gs) l (sym judged ∙ t)) l
-
-    pub check-next : r ≡ false → Checks f h s gs choices (i + 1) next choice
-    check-next t =
-        let n : i + 1 - 1 ≡ i = omega arith in
-        record {
-          walk = reads-this (k .walk) l e q .1;
-          choice = λ z. rw n b;
-          faults = k .faults ∙ first-step (badChoice gs choices) i (length gs) l (sym judged ∙ t);
-        }
+-- of the globals that were counted and the first whose choice is bad
+pub choices-from : (gs : List Global) (choices : List ℕ) (globals fault : ℕ) → length gs ≡ globals
+    → fault ≡ first (badChoice gs choices) 0 globals → choicesFrom globals fault (length choices) ≡ choicesCheck gs choices
+unfolding choicesFrom choicesCheck
+choices-from gs choices globals fault n e = rw (n, e)
 
 -- ---- the plane
 

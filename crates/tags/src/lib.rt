@@ -6,9 +6,9 @@ ghost use Rattle.rules.specs.Outcome.{good, refuse};
 ghost use Rattle.rules.specs.Limits.{granule};
 ghost use Rattle.rules.specs.Memory.{put};
 ghost use Rattle.rules.specs.Descriptors.{globalsOf};
-ghost use Rattle.rules.specs.Load.{listOf, choicesCheck, planeOf};
+ghost use Rattle.rules.specs.Load.{listOf, planeOf};
 ghost use Rattle.rules.specs.Answers.{ofChecked, countOf};
-ghost use Rattle.tags.specs.Choice.{badAfter};
+ghost use Rattle.tags.specs.Choices.{choicesFrom};
 use rules::Checked;
 use rules::Cursor;
 use rules::Descriptors;
@@ -16,11 +16,6 @@ use rules::Global;
 use rules::Headers;
 use rules::Refusal;
 use rules::Step;
-
-// The least and the greatest choice.
-const CHOICE_LEAST: u8 = 1;
-
-const CHOICE_LIMIT: u8 = 15;
 
 // The tag of a granule that no global has.
 const UNTAGGED: u8 = 0;
@@ -48,51 +43,16 @@ fn choice_at(choices: &[u8], i: u16) -> u8
     reads::byte_at(choices, i as usize)
 }
 
-// Check 14 of one choice, from the end of the global before and the choice before.
-fn is_bad_choice(i: u16, end: u64, last: u8, start: u64, choice: u8) -> bool
-    ensures { λ r. ⌜ r ≡ badAfter i end last start choice ⌝ }
-{
-    if choice < CHOICE_LEAST {
-        return true;
-    }
-    if CHOICE_LIMIT < choice {
-        return true;
-    }
-    if i == 0 {
-        return false;
-    }
-    if end != start {
-        return false;
-    }
-    last == choice
-}
-
-// Check 14: as many choices as globals, and each of them good. The caller has counted the globals.
-pub fn check_choices(f: &[u8], h: Headers, t: Descriptors, globals: u16, choices: &[u8]) -> Checked
-    requires { ⌜ countOf (globalsOf (now f) h t) ≡ good globals ⌝ }
-    ensures { λ r. ⌜ ofChecked r ≡ choicesCheck (listOf (globalsOf (now (f .entry)) h t)) (now (choices .entry)) ⌝ }
+// Check 14, where the walk of the descriptors counted the globals and found the first bad choice: as many choices as globals, and
+// each of them good.
+pub fn check_choices(globals: u16, fault: u16, choices: &[u8]) -> Checked
+    ensures { λ r. ⌜ ofChecked r ≡ choicesFrom globals fault (length (now (choices .entry))) ⌝ }
 {
     if choices.len() != globals as usize {
         return refused(globals);
     }
-    let table = reads::part_of(f, t.at as usize, t.bytes as usize);
-    let mut cursor = Cursor {
-        position: 0,
-        end: 0,
-    };
-    let mut last: u8 = 0;
-    for i in 0..globals {
-        let st = cursor.step(table, i as u64);
-        // The other cases never come: there are as many globals as were counted.
-        let Step::Global(g, next) = st else {
-            return Checked::Passed;
-        };
-        let choice = choice_at(choices, i);
-        if is_bad_choice(i, cursor.end, last, g.start, choice) {
-            return refused(i);
-        }
-        cursor = next;
-        last = choice;
+    if fault != globals {
+        return refused(fault);
     }
     Checked::Passed
 }
@@ -129,7 +89,7 @@ pub fn tag_globals(
     };
     for i in 0..globals {
         let st = cursor.step(table, i as u64);
-        // As above.
+        // The other cases never come: there are as many globals as were counted.
         let Step::Global(g, next) = st else {
             return;
         };

@@ -16,14 +16,21 @@ fn put(file: &mut [u8], at: usize, words: &[u64]) {
     }
 }
 
-/// One writable PT_LOAD over the whole file, with a relocation for each 64 bytes and a global for
-/// each 256 bytes, as many as the limits allow, spread over all of it.
+/// A relocation for each 64 bytes and a global for each 256 bytes, as many as the limits allow.
 pub fn image(size: usize) -> Call {
+    image_of(size, (size / 64).min(MOST), (size / 256).min(MOST))
+}
+
+/// The same without relocations.
+pub fn bare(size: usize) -> Call {
+    image_of(size, 0, (size / 256).min(MOST))
+}
+
+/// One writable PT_LOAD over the whole file, with relocations and globals spread over all of it.
+fn image_of(size: usize, relocations: usize, globals: usize) -> Call {
     let mut r = Random::new(size as u64);
     let mut file = r.bytes(size);
-    let relocations = (size / 64).min(MOST);
-    let globals = (size / 256).min(MOST);
-    let (place_step, global_step) = (size / relocations, size / globals);
+    let (place_step, global_step) = (size / relocations.max(1), size / globals);
 
     let mut descriptors = Vec::new();
     for i in 0..globals {

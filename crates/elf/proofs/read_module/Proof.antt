@@ -1,23 +1,20 @@
--- Checks 1 to 4 in their order, then the dynamic table; a refusal is passed up.
+-- The parts, then the globals; a refusal is passed up.
 -- Assumes nothing.
-use Rattle.rules.specs.Examine.{moduleOf}
-use Rattle.elf.specs.Stages.{moduleIn, tablesIn}
+use Rattle.elf.proofs.Laws.{module-unread, module-counted}
+use mathlib.Core.Path.{sym, _∙_}
 use borrow.Author.Needs.{needs}
 use Rattle.elf.proofs.read_module.Statement.{statement}
 use Rattle.elf.proofs.read_module.Tie as tie
 
 returns-2 : tie.Need-returns-2
-unfolding moduleOf
-returns-2 c = rw (← c .before .before .before .before .before .before .read-headers .ensures, c .before .before .before .before .found2 .given .1) (cc)
+returns-2 c = sym (module-unread (c .before .before .before .before .before .before .before .before .args .f .now) _ (sym (rw (c .before .before .before .before .read2 .given .1) at (c .before .before .before .before .before .before .read-parts .ensures))) ∙ cc)
 
 returns-4 : tie.Need-returns-4
-unfolding moduleOf
-returns-4 c = rw (← c .before .before .before .before .before .before .before .before .before .before .read-headers .ensures, c .before .before .before .before .before .before .before .before .found .given .1, ← c .before .before .before .before .before .before .check-loads .ensures, c .before .before .before .before .loads .given .1) (cc)
+returns-4 c = sym (module-counted (c .before .before .before .before .before .before .before .before .before .before .before .before .before .before .args .f .now) (c .before .before .before .before .before .before .before .before .before .before .read .given .0 .0) _ (sym (rw (c .before .before .before .before .before .before .before .before .before .before .read .given .1) at (c .before .before .before .before .before .before .before .before .before .before .before .before .read-parts .ensures))) (rw (c .before .before .before .before .counted2 .given .1) at (c .before .before .before .before .before .before .count-globals .ensures)) ∙ cc)
 
 returns-5 : tie.Need-returns-5
-unfolding moduleOf moduleIn tablesIn
-returns-5 c = rw (← c .before .before .before .before .before .before .before .read-headers .ensures, c .before .before .before .before .before .found .given .1, ← c .before .before .before .check-loads .ensures, c .before .enum-told2 .given .1) (c .read-dynamic .ensures)
+returns-5 c = sym (module-counted (c .before .before .before .before .before .before .before .before .before .before .before .before .before .args .f .now) (c .before .before .before .before .before .before .before .before .before .read .given .0 .0) _ (sym (rw (c .before .before .before .before .before .before .before .before .before .read .given .1) at (c .before .before .before .before .before .before .before .before .before .before .before .read-parts .ensures))) (rw (c .before .before .before .counted .given .1) at (c .before .before .before .before .before .count-globals .ensures)))
 
 pub read-module-spec : {M : Type 1} → statement M
 read-module-spec =
-    tie.close (tie.spec (search needs) (search needs) (search needs) (search needs) (search needs) (λ c. search needs) returns-2 (search needs) (search needs) (search needs) (search needs) (search needs) (λ c. search needs) returns-4 (search needs) returns-5)
+    tie.close (tie.spec (search needs) (search needs) (search needs) (search needs) (search needs) (λ c. search needs) returns-2 (search needs) (search needs) (search needs) (search needs) (search needs) (λ c. search needs) returns-4 returns-5)

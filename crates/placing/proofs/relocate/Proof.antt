@@ -2,7 +2,7 @@
 -- Assumes nothing.
 use Rattle.placing.proofs.WriteLaws.{write-next}
 use Rattle.placing.specs.Words.{wordIn}
-use Rattle.placing.specs.Addresses.{badAddressIn}
+use Rattle.relocations.specs.Addresses.{badAddressIn}
 use Rattle.laws.proofs.Writes.{writes-length}
 use Rattle.laws.proofs.Checks.{faultless-all}
 use Rattle.rules.specs.Load.{writes}

@@ -1,8 +1,8 @@
 -- The fields are read once; check 13 says that the address is in range.
 -- Assumes nothing.
-use Rattle.placing.proofs.AddressLaws.{at-small, outside-out, not-both}
+use Rattle.relocations.proofs.AddressLaws.{at-small, outside-out, not-both}
 use Rattle.placing.specs.Words.{wordIn, written}
-use Rattle.placing.specs.Addresses.{badAddressIn}
+use Rattle.relocations.specs.Addresses.{badAddressIn}
 use Rattle.rules.specs.Load.{addressOf}
 use mathlib.Core.Bool.{true}
 use mathlib.Core.Path.{_≡_, sym, _∙_}

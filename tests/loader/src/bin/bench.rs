@@ -2,15 +2,14 @@
 //!
 //!     bench [--against archive] [--rounds N]
 
-use loader::bench::{examines, image, loads, Times, SIZES};
+use loader::bench::{bare, examines, image, loads, Times, SIZES};
 use loader::compare::partner;
 use std::process::ExitCode;
 
-fn row(size: usize, call: &str, [proved, plain]: [Times; 2]) {
+fn row(image: &str, call: &str, [proved, plain]: [Times; 2]) {
     let micro = |d: std::time::Duration| d.as_nanos() as f64 / 1000.0;
     println!(
-        "| {} KiB | {call} | {:.1} | {:.1} | {:.1} | {:.1} | {:.2} | {:.2} |",
-        size >> 10,
+        "| {image} | {call} | {:.1} | {:.1} | {:.1} | {:.1} | {:.2} | {:.2} |",
         micro(proved.best),
         micro(proved.median),
         micro(plain.best),
@@ -40,9 +39,13 @@ fn run(words: &[String]) -> Result<(), String> {
     println!("|---|---|---|---|---|---|---|---|");
     for size in SIZES {
         let call = image(size);
-        row(size, "load", loads(&call, loaders, rounds));
-        row(size, "examine", examines(&call, loaders, rounds));
+        let name = format!("{} KiB", size >> 10);
+        row(&name, "load", loads(&call, loaders, rounds));
+        row(&name, "examine", examines(&call, loaders, rounds));
     }
+    let call = bare(1 << 20);
+    row("1024 KiB, no relocations", "load", loads(&call, loaders, rounds));
+    row("1024 KiB, no relocations", "examine", examines(&call, loaders, rounds));
     Ok(())
 }
 

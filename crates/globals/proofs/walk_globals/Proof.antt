@@ -1,0 +1,14 @@
+-- The table is the file's part that the walk is over.
+-- Assumes nothing.
+use Rattle.rules.specs.Descriptors.{globalsOf}
+use borrow.Author.Needs.{needs}
+use Rattle.globals.proofs.walk_globals.Statement.{statement}
+use Rattle.globals.proofs.walk_globals.Tie as tie
+
+returns : tie.Need-returns
+unfolding globalsOf
+returns c = rw (← c .before .part-of .ensures) (c .walk-table .ensures)
+
+pub walk-globals-spec : {M : Type 1} → statement M
+walk-globals-spec =
+    tie.close (tie.spec (search needs) (search needs) (search needs) (search needs) returns)
