@@ -12,16 +12,10 @@ use rules::Headers;
 use rules::HeadersAnswer;
 use rules::Module;
 use rules::ModuleAnswer;
+use rules::NEVER;
 use rules::Parts;
 use rules::PartsAnswer;
-use rules::Refusal;
 use rules::RelocationsAnswer;
-
-// The answer of an arm that is never taken.
-const NEVER: Refusal = Refusal {
-    number: 0,
-    position: 0,
-};
 
 // Check 7: the tables.
 fn read_tables(f: &[u8], h: Headers, d: Dynamic) -> PartsAnswer

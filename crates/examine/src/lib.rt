@@ -12,7 +12,7 @@ use rules::Facts;
 use rules::Mode;
 use rules::Module;
 use rules::ModuleAnswer;
-use rules::Refusal;
+use rules::NEVER;
 use rules::Switch;
 use rules::WalkAnswer;
 
@@ -23,12 +23,6 @@ const MEMTAG_MODE: u64 = 0x70000009;
 const MEMTAG_HEAP: u64 = 0x7000000b;
 
 const MEMTAG_STACK: u64 = 0x7000000c;
-
-// The answer of an arm that is never taken.
-const NEVER: Refusal = Refusal {
-    number: 0,
-    position: 0,
-};
 
 // MEMTAG_MODE: 0 synchronous, 1 asynchronous.
 fn mode_of(e: Entry) -> Mode

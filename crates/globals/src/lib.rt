@@ -12,13 +12,13 @@ use rules::Counted;
 use rules::CountedAnswer;
 use rules::Cursor;
 use rules::Descriptors;
+use rules::GRANULE;
 use rules::Global;
 use rules::GlobalsAnswer;
 use rules::Headers;
+use rules::NEVER;
 use rules::Refusal;
 use rules::Step;
-
-const GRANULE: u64 = 16;
 
 const GLOBAL_LIMIT: u16 = 1024;
 
@@ -26,12 +26,6 @@ const GLOBAL_LIMIT: u16 = 1024;
 const CHOICE_LEAST: u8 = 1;
 
 const CHOICE_LIMIT: u8 = 15;
-
-// The answer of an arm that is never taken.
-const NEVER: Refusal = Refusal {
-    number: 0,
-    position: 0,
-};
 
 // A global lies inside the memory part of one PT_LOAD.
 fn in_range(f: &[u8], h: Headers, g: Global) -> bool

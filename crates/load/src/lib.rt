@@ -12,15 +12,10 @@ use rules::Chosen;
 use rules::ChosenAnswer;
 use rules::CountedAnswer;
 use rules::Module;
+use rules::NEVER;
 use rules::PartsAnswer;
 use rules::Refusal;
 use rules::WalkAnswer;
-
-// The answer of an arm that is never taken.
-const NEVER: Refusal = Refusal {
-    number: 0,
-    position: 0,
-};
 
 // Checks 1 to 9 of a file beside a list of choices.
 fn read_chosen(f: &[u8], choices: &[u8]) -> ChosenAnswer

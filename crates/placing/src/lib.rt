@@ -16,6 +16,7 @@ use rules::ADDRESS_LIMIT;
 use rules::Address;
 use rules::Checked;
 use rules::Entry;
+use rules::GRANULE;
 use rules::Headers;
 use rules::MEMORY_LIMIT;
 use rules::Refusal;
@@ -24,8 +25,6 @@ use rules::Segment;
 use rules::Target;
 
 const PAGE: u64 = 4096;
-
-const GRANULE: u64 = 16;
 
 // A tag stands in bits 56 to 59 of a word.
 const TAG_UNIT: u64 = 72057594037927936;

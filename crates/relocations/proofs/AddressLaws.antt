@@ -5,9 +5,8 @@ use mathlib.Core.Path.{_≡_, refl}
 use mathlib.Core.Bool.{Bool, true, false, cond}
 use mathlib.Core.List.{List}
 use native.Mathlib.Omega.{arith}
-use lib.Dec.{ltb}
 use lib.IntN.{ℤ, pos, negsuc}
-use borrow.Author.Tests.{ltb-true, ltb-false, le-leb, lt-leb}
+use borrow.Author.Tests.{leb-false}
 use Rattle.rules.specs.Limits.{addressLimit}
 use Rattle.rules.specs.First.{faultless}
 use Rattle.rules.specs.Dynamic.{entryOf}
@@ -24,13 +23,9 @@ pub addresses-in : (f : List ℕ) (h : Headers) (d : Dynamic) (r : Relocations) 
 unfolding addressesCheck badAddress badAddressIn
 addresses-in f h d r bias = refl
 
-at-tests : (b : Bool) (x a : ℕ) → cond b (At x) Outside ≡ At a → (b ≡ true) × (x ≡ a)
-at-tests true x a e = (refl, cc)
-at-tests false x a e = absurd (let z : _≡_ {A = ℕ} 0 1 = cc in omega arith)
-
-outside-test : (b : Bool) (x : ℕ) → cond b (At x) Outside ≡ Outside → b ≡ false
-outside-test true x e = absurd (let z : _≡_ {A = ℕ} 0 1 = cc in omega arith)
-outside-test false x e = refl
+in-range-below : (z : ℤ) → outOfRange z ≡ false → natural z < 2 ^ 48
+in-range-below (pos x) e = leb-false addressLimit x e
+in-range-below (negsuc x) e = absurd (let z : _≡_ {A = ℕ} 0 1 = cc in omega arith)
 
 -- an address in range is the natural number that it is
 pub record Small (z : ℤ) (a : ℕ) : Type 0 where
@@ -39,15 +34,18 @@ pub record Small (z : ℤ) (a : ℕ) : Type 0 where
   pub below : a < 2 ^ 48
 
 pub at-small : (z : ℤ) (a : ℕ) → inRange z ≡ At a → Small z a
-at-small (pos x) a e =
-    let t = at-tests (ltb x addressLimit) x a e in
-    let l = ltb-true x addressLimit (t .0) in
-    record { in-range = lt-leb addressLimit x l; same = t .1; below = omega arith }
-at-small (negsuc x) a e = absurd (let z : _≡_ {A = ℕ} 0 1 = cc in omega arith)
+at-small z a e = go (outOfRange z) refl e
+  where
+    go : (b : Bool) → outOfRange z ≡ b → cond b Outside (At (natural z)) ≡ At a → Small z a
+    go true t q = absurd (let z : _≡_ {A = ℕ} 0 1 = cc in omega arith)
+    go false t q = let s : natural z ≡ a = cc in record { in-range = t; same = s; below = rw (← s) (in-range-below z t) }
 
 pub outside-out : (z : ℤ) → inRange z ≡ Outside → outOfRange z ≡ true
-outside-out (pos x) e = le-leb addressLimit x (ltb-false x addressLimit (outside-test (ltb x addressLimit) x e))
-outside-out (negsuc x) e = refl
+outside-out z e = go (outOfRange z) e
+  where
+    go : (b : Bool) → cond b Outside (At (natural z)) ≡ Outside → b ≡ true
+    go true q = refl
+    go false q = absurd (let z : _≡_ {A = ℕ} 0 1 = cc in omega arith)
 
 -- a test does not come out both ways
 pub not-both : (b : Bool) → b ≡ true → b ≡ false → ⊥

@@ -1,14 +1,13 @@
 -- The cases of each enum that a call answers, as document 01's outcome.
 -- Assumes nothing.
 use Prim.Native.Nat.{ℕ}
-use mathlib.Core.Bool.{Bool, cond}
+use mathlib.Core.Bool.{cond}
 use mathlib.Core.List.{List}
 use lib.ListN.{length}
-use lib.Dec.{ltb}
-use lib.IntN.{ℤ, pos, negsuc}
+use lib.IntN.{ℤ}
 use Rattle.rules.specs.Outcome.{Outcome, good, bad}
-use Rattle.rules.specs.Limits.{addressLimit}
 use Rattle.rules.specs.Descriptors.{Read, finished, global}
+use Rattle.rules.specs.Load.{outOfRange, natural}
 use Rattle.rules.specs.declared.Headers.{Headers}
 use Rattle.rules.specs.declared.Dynamic.{Dynamic}
 use Rattle.rules.specs.declared.Relocations.{Relocations}
@@ -107,7 +106,6 @@ abbrev pub ofWalk : WalkAnswer → Outcome Walked
 ofWalk (walk.Found w) = good w
 ofWalk (walk.Refused r) = bad r
 
--- an address that is not below 0 and below 2^48
+-- an address that check 13 does not refuse
 abbrev pub inRange : ℤ → Address
-inRange (pos x) = cond (ltb x addressLimit) (address.At x) address.Outside
-inRange (negsuc x) = address.Outside
+inRange z = cond (outOfRange z) address.Outside (address.At (natural z))

@@ -9,6 +9,15 @@ pub const MEMORY_LIMIT: u64 = 1048576;
 // Addresses are below this.
 pub const ADDRESS_LIMIT: u64 = 281474976710656;
 
+// Bytes of a granule.
+pub const GRANULE: u64 = 16;
+
+// The refusal of an arm that is never taken.
+pub const NEVER: Refusal = Refusal {
+    number: 0,
+    position: 0,
+};
+
 // Why a call was refused: document 01's number and position.
 pub struct Refusal {
     pub number: u8,

@@ -12,6 +12,7 @@ ghost use Rattle.tags.specs.Choices.{choicesFrom};
 use rules::Checked;
 use rules::Cursor;
 use rules::Descriptors;
+use rules::GRANULE;
 use rules::Global;
 use rules::Headers;
 use rules::Refusal;
@@ -19,9 +20,6 @@ use rules::Step;
 
 // The tag of a granule that no global has.
 const UNTAGGED: u8 = 0;
-
-// Bytes of a granule.
-const GRANULE: u64 = 16;
 
 // The refusal number of check 14.
 const BAD_CHOICE: u8 = 14;

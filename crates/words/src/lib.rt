@@ -11,6 +11,7 @@ ghost use Rattle.rules.specs.Load.{addressOf, tagAddress, sourceTag};
 ghost use Rattle.rules.specs.Answers.{inRange};
 use rules::ADDRESS_LIMIT;
 use rules::Address;
+use rules::GRANULE;
 use rules::Target;
 
 // Addends from here on are below 0.
@@ -18,9 +19,6 @@ const NEGATIVE: u64 = 9223372036854775808;
 
 // The largest u64.
 const LARGEST: u64 = 18446744073709551615;
-
-// Bytes of a granule.
-const GRANULE: u64 = 16;
 
 // base and a signed addend, where that is an address.
 fn offset_address(base: u64, addend: u64) -> Address
@@ -75,22 +73,12 @@ pub fn relative_source(bias: u64, addend: u64, loaded: u64) -> u64
     std::num::wrapping_add_u64(std::num::wrapping_add_u64(bias, addend), loaded)
 }
 
-// The byte of s at a place; 0 past the end.
-fn byte_at(s: &[u8], at: usize) -> u8
-    ensures { λ r. ⌜ r ≡ getD (now (s .entry)) at 0 ⌝ }
-{
-    if at < s.len() {
-        return s[at];
-    }
-    0
-}
-
 // The tag of the granule at a distance from the memory's first address; 0 outside its n addresses.
 fn distance_tag(plane: &[u8], n: u64, distance: u64) -> u8
     ensures { λ r. ⌜ r ≡ cond (ltb distance n) (getD (now (plane .entry)) (distance / granule) 0) 0 ⌝ }
 {
     if distance < n {
-        return byte_at(plane, (distance / GRANULE) as usize);
+        return reads::byte_at(plane, (distance / GRANULE) as usize);
     }
     0
 }
