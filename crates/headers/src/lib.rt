@@ -12,6 +12,7 @@ use rules::Checked;
 use rules::Headers;
 use rules::HeadersAnswer;
 use rules::MEMORY_LIMIT;
+use rules::NEVER;
 use rules::Place;
 use rules::Refusal;
 use rules::Segment;
@@ -137,30 +138,21 @@ pub fn read_headers(f: &[u8]) -> HeadersAnswer
     let size = check_size(f);
     let Checked::Passed = size else {
         let Checked::Refused(r) = size else {
-            return HeadersAnswer::Refused(Refusal {
-                number: 1,
-                position: 0,
-            });
+            return HeadersAnswer::Refused(NEVER);
         };
         return HeadersAnswer::Refused(r);
     };
     let identified = check_identification(f);
     let Checked::Passed = identified else {
         let Checked::Refused(r) = identified else {
-            return HeadersAnswer::Refused(Refusal {
-                number: 2,
-                position: 0,
-            });
+            return HeadersAnswer::Refused(NEVER);
         };
         return HeadersAnswer::Refused(r);
     };
     let header = check_header(f);
     let Checked::Passed = header else {
         let Checked::Refused(r) = header else {
-            return HeadersAnswer::Refused(Refusal {
-                number: 3,
-                position: 0,
-            });
+            return HeadersAnswer::Refused(NEVER);
         };
         return HeadersAnswer::Refused(r);
     };
