@@ -277,6 +277,7 @@ pub fn check_relocations(
     ensures { λ v. ⌜ ofWalk v ≡ walkOf (now (f .entry)) h symbols r bias ⌝ }
 {
     let n = r.entries;
+    // The places of the entries so far.
     let mut keys = [0u64; 1024];
     let mut words: u16 = 0;
     let mut outside: u16 = 0;

@@ -9,6 +9,7 @@ ghost use Rattle.rules.specs.Answers.{ofStep};
 ghost use Rattle.rules.specs.Numbers.{ofUleb};
 use crate::ADDRESS_LIMIT;
 use crate::Cursor;
+use crate::GRANULE;
 use crate::Global;
 use crate::Refusal;
 use crate::Step;
@@ -36,9 +37,6 @@ const SIZES: u64 = 8;
 
 // A second number and this are the size.
 const SIZE_OFFSET: u64 = 1;
-
-// Bytes of a granule.
-const GRANULE: u64 = 16;
 
 // The limit of addresses in granules; no global ends above it.
 const GRANULE_LIMIT: u64 = 17592186044416;
