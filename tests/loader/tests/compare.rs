@@ -54,5 +54,5 @@ fn wrong_words_are_told() {
 fn the_bench_images_are_taken() {
     let (code, text) = run(BENCH, &["--against", "self", "--rounds", "3"]);
     assert_eq!(code, Some(0), "{text}");
-    assert_eq!(text.matches("| load |").count(), 3, "{text}");
+    assert_eq!(text.matches("| load |").count(), 4, "{text}");
 }
