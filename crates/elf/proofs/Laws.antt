@@ -42,7 +42,7 @@ module-parts f =
 pub module-unread : (f : List ℕ) (r : Refusal) → partsOf f ≡ bad r → moduleOf f ≡ bad r
 module-unread f r e = module-parts f ∙ rw (e) (refl)
 
-pub module-counted : (f : List ℕ) (p : Parts) (o : Outcome ℕ)
+pub module-of-count : (f : List ℕ) (p : Parts) (o : Outcome ℕ)
     → partsOf f ≡ good p → o ≡ countOf (globalsOf f (p .headers) (p .descriptors)) → moduleOf f ≡ andThen o (λ n. good (moduleWith p n))
-module-counted f p o e q =
+module-of-count f p o e q =
     module-parts f ∙ rw (e, q) (count-then (globalsOf f (p .headers) (p .descriptors)) (λ n. good (moduleWith p n)))

@@ -34,7 +34,7 @@ use Rattle.tags.proofs.Laws.{choices-from}
 use Rattle.relocations.specs.Addresses.{badAddressIn}
 use Rattle.placing.specs.Words.{wordIn}
 use Rattle.relocations.proofs.AddressLaws.{addresses-in}
-use Rattle.load.specs.Stages.{chosenIn, chosenOf, addressesFrom, lentIn, checksIn, checkedIn, factsAfter}
+use Rattle.load.specs.Stages.{chosenIn, chosenOf, lentIn, checksIn, checkedIn, factsAfter}
 
 -- ---- reading
 
@@ -104,7 +104,7 @@ module _ (f : List ℕ) (m : Module) (bias n p : ℕ) (choices : List ℕ) where
       → outside ≡ first (badAddressIn f (m .headers) (entryOf f (m .dynamic) 6) (m .relocations) bias) 0 (m .relocations .entries)
       → fault ≡ first (badChoice (globalsIn f m) choices) 0 (m .globals)
       → lentIn f m outside fault bias n p (length choices) ≡ checksIn f m bias n p choices
-  unfolding lentIn checksIn relocationsCheck addressesFrom
+  unfolding lentIn checksIn relocationsCheck
   checks-walked outside fault e w a c =
       let k = module-reads f m e in
       rw (w, addresses-in f (m .headers) (m .dynamic) (m .relocations) bias, a, choices-from (globalsIn f m) choices (m .globals) fault (globals-number f m e) c)

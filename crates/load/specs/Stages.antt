@@ -1,11 +1,10 @@
 -- The stages of a load: reading, checks 10 to 14, and the facts that it answers.
 -- Assumes nothing.
 use Prim.Native.Nat.{ℕ}
-use mathlib.Core.Bool.{cond, _&&_}
+use mathlib.Core.Bool.{_&&_}
 use mathlib.Core.List.{List}
-use lib.Dec.{eqb}
-use Rattle.rules.specs.Outcome.{Outcome, good, bad, refuse, andThen, require}
-use Rattle.rules.specs.First.{first}
+use Rattle.rules.specs.Outcome.{Outcome, good, bad, andThen, require}
+use Rattle.rules.specs.First.{first, faultAt}
 use Rattle.rules.specs.Relocations.{relocationsCheck}
 use Rattle.rules.specs.Examine.{moduleOf, factsOf}
 use Rattle.rules.specs.Load.{Loaded, memoryFits, planeFits, loadsEnd, addressesCheck, globalsIn, badChoice, choicesCheck}
@@ -22,15 +21,11 @@ chosenIn f choices m = record { read = m; fault = first (badChoice (globalsIn f 
 unfoldable pub chosenOf : List ℕ → List ℕ → Outcome Chosen
 chosenOf f choices = andThen (moduleOf f) (λ m. good (chosenIn f choices m))
 
--- check 13 by the first address out of range
-unfoldable pub addressesFrom : ℕ → ℕ → Outcome (Unit {0})
-addressesFrom entries outside = cond (eqb outside entries) (good tt) (refuse 13 outside)
-
 -- checks 12 to 14 by the first address out of range and the first bad choice
 unfoldable pub lentIn : List ℕ → Module → ℕ → ℕ → ℕ → ℕ → ℕ → ℕ → Outcome (Unit {0})
 lentIn f m outside fault bias n p choices =
     andThen (require (memoryFits (loadsEnd f (m .headers)) n bias && planeFits n p) 12 0) (λ _.
-    andThen (addressesFrom (m .relocations .entries) outside) (λ _.
+    andThen (faultAt 13 (m .relocations .entries) outside) (λ _.
     choicesFrom (m .globals) fault choices))
 
 -- checks 10 to 14

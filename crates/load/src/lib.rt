@@ -5,7 +5,7 @@ ghost use Rattle.rules.specs.Outcome.{good};
 ghost use Rattle.rules.specs.Load.{imageOf, loadedMemory, loadedPlane, loadOf, memoryAfter, planeAfter};
 ghost use Rattle.rules.specs.Answers.{ofChecked, ofChosen, ofAnswer};
 ghost use Rattle.demands.specs.Demands.{Passes};
-ghost use Rattle.load.specs.Stages.{chosenOf, addressesFrom, lentIn, checkedIn, factsAfter};
+ghost use Rattle.load.specs.Stages.{chosenOf, lentIn, checkedIn, factsAfter};
 use rules::Answer;
 use rules::Checked;
 use rules::Chosen;
@@ -14,7 +14,6 @@ use rules::CountedAnswer;
 use rules::Module;
 use rules::NEVER;
 use rules::PartsAnswer;
-use rules::Refusal;
 use rules::WalkAnswer;
 
 // Checks 1 to 9 of a file beside a list of choices.
@@ -52,19 +51,6 @@ fn read_chosen(f: &[u8], choices: &[u8]) -> ChosenAnswer
     })
 }
 
-// Check 13, where the walk of the entries found the first address out of range.
-fn check_addresses(entries: u16, outside: u16) -> Checked
-    ensures { λ v. ⌜ ofChecked v ≡ addressesFrom entries outside ⌝ }
-{
-    if outside == entries {
-        return Checked::Passed;
-    }
-    Checked::Refused(Refusal {
-        number: 13,
-        position: outside as u64,
-    })
-}
-
 // Checks 12 to 14 of a module, where the walks of its tables found the first address out of range and the first bad choice.
 fn check_lent(
     f: &[u8],
@@ -85,7 +71,7 @@ fn check_lent(
     let Checked::Passed = lent else {
         return lent;
     };
-    let addressed = check_addresses(r.entries, outside);
+    let addressed = reads::check_fault(13, r.entries, outside);
     let Checked::Passed = addressed else {
         return addressed;
     };

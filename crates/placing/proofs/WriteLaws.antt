@@ -8,22 +8,14 @@ use mathlib.Core.Logic.{_⊎_, inl, inr, ⊎-elim}
 use native.Mathlib.Omega.{arith}
 use lib.ListN.{length, getD}
 use Rattle.rules.specs.Bytes.{le}
-use Rattle.rules.specs.Dynamic.{entryOf}
 use Rattle.rules.specs.Relocations.{placeAt, live}
-use Rattle.rules.specs.Load.{writes, wordAt}
+use Rattle.rules.specs.Load.{writes}
 use Rattle.rules.specs.declared.Headers.{Headers}
-use Rattle.rules.specs.declared.Dynamic.{Dynamic}
 use Rattle.rules.specs.declared.Entry.{Entry}
 use Rattle.rules.specs.declared.Relocations.{Relocations}
 use Rattle.laws.proofs.Checks.{cond-both}
 use Rattle.laws.proofs.Writes.{Apart, writes-length, writes-other}
 use Rattle.placing.specs.Words.{wordIn, written}
-
--- the rules' word, by the symbol table's entry
-pub words-in : (f : List ℕ) (h : Headers) (d : Dynamic) (r : Relocations) (bias : ℕ) (image plane : List ℕ)
-    → wordAt f h d r bias image plane ≡ wordIn f h (entryOf f d 6) r bias image plane
-unfolding wordIn
-words-in f h d r bias image plane = refl
 
 -- memories that agree in n bytes hold the same number there
 le-same : (n : ℕ) (s t : List ℕ) (at : ℕ) → ((j : ℕ) → j < n → getD s (at + j) 0 ≡ getD t (at + j) 0) → le n s at ≡ le n t at

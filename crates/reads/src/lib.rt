@@ -1,11 +1,15 @@
-// Total reads of a list of bytes, exact comparisons of sums, and the first index at which a test holds.
+// Total reads of a list of bytes, exact comparisons of sums, and the first index at which a test holds or a check fails.
 ghost use mathlib.Core.Path.{_≡_};
 ghost use mathlib.Core.Bool.{cond, _&&_};
 ghost use Prim.Native.Nat.{_+_, _≤_, _<_};
 ghost use lib.Dec.{leb, eqb};
 ghost use lib.ListN.{length, getD};
 ghost use Rattle.rules.specs.Bytes.{le, part};
+ghost use Rattle.rules.specs.First.{faultAt};
 ghost use Rattle.rules.specs.Segments.{covers};
+ghost use Rattle.rules.specs.Answers.{ofChecked};
+use rules::Checked;
+use rules::Refusal;
 
 fn byte(s: &[u8], at: usize) -> u8
     requires { ⌜ at < length (now s) ⌝ }
@@ -188,4 +192,17 @@ pub fn first_after(found: u16, i: u16, hit: bool) -> u16
         return i + 1;
     }
     found
+}
+
+// A check that found the first fault among n: refused with its number there, passed where there is none.
+pub fn check_fault(number: u8, n: u16, lowest: u16) -> Checked
+    ensures { λ r. ⌜ ofChecked r ≡ faultAt number n lowest ⌝ }
+{
+    if lowest == n {
+        return Checked::Passed;
+    }
+    Checked::Refused(Refusal {
+        number: number,
+        position: lowest as u64,
+    })
 }

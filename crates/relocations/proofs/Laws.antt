@@ -24,7 +24,7 @@ use Rattle.rules.specs.declared.Refusal.{Refusal}
 use Rattle.rules.proofs.FirstLaws.{first-none, first-same, first-next}
 use Rattle.rules.proofs.OutcomeLaws.{and-left, andThen-good}
 use Rattle.relocations.specs.Addresses.{badAddressIn}
-use Rattle.relocations.specs.Walk.{entryFault, keyAt, hasKey, rivalsFrom, walkedOf, walkOf}
+use Rattle.relocations.specs.Walk.{entryFault, keyAt, hasKey, searchFrom, walkedOf, walkOf}
 
 -- an entry with a fault is bad, whatever places come before it
 fault-tests : (l b p t : Bool) (k : ℕ) → cond l (cond b 10 (cond p 0 11)) 0 ≡ k → (k ≡ 0 → ⊥)
@@ -87,28 +87,28 @@ key-place true q p z = refl
 key-place false q p z = ne-eqb 1 p (λ e. omega arith)
 
 -- the search among the entries before, from where it begins
-pub rival-start : (t : ℕ → Bool) (key i j : ℕ) → j ≡ rivalsFrom key i → (j ≤ i) × (cond (eqb key 1) i (first t 0 i) ≡ first t j (i - j))
-unfolding rivalsFrom
-rival-start t key i j e = go (eqb key 1) e
+pub repeat-start : (t : ℕ → Bool) (key i j : ℕ) → j ≡ searchFrom key i → (j ≤ i) × (cond (eqb key 1) i (first t 0 i) ≡ first t j (i - j))
+unfolding searchFrom
+repeat-start t key i j e = go (eqb key 1) e
   where
     go : (b : Bool) → j ≡ cond b i 0 → (j ≤ i) × (cond b i (first t 0 i) ≡ first t j (i - j))
     go true d = (omega arith, let g : i ≤ j = omega arith in sym (first-none t j i (omega arith) g))
     go false d = (omega arith, rw (d, sub-zero))
 
-rivals-hit : (l : Bool) (t : ℕ → Bool) (i j : ℕ) → cond l (first t 0 i) i ≡ j → j < i → ((l && someBelow t i) ≡ true) × (l ≡ true)
-rivals-hit true t i j e h = (lt-ltb (first t 0 i) i (omega arith), refl)
-rivals-hit false t i j e h = absurd (omega arith)
+repeats-hit : (l : Bool) (t : ℕ → Bool) (i j : ℕ) → cond l (first t 0 i) i ≡ j → j < i → ((l && someBelow t i) ≡ true) × (l ≡ true)
+repeats-hit true t i j e h = (lt-ltb (first t 0 i) i (omega arith), refl)
+repeats-hit false t i j e h = absurd (omega arith)
 
-rivals-end : (l : Bool) (t : ℕ → Bool) (i : ℕ) → cond l (first t 0 i) i ≡ i → (l && someBelow t i) ≡ false
-rivals-end true t i e = le-ltb (first t 0 i) i (omega arith)
-rivals-end false t i e = refl
+repeats-end : (l : Bool) (t : ℕ → Bool) (i : ℕ) → cond l (first t 0 i) i ≡ i → (l && someBelow t i) ≡ false
+repeats-end true t i e = le-ltb (first t 0 i) i (omega arith)
+repeats-end false t i e = refl
 
 module _ (f : List ℕ) (h : Headers) (r : Relocations) (i key : ℕ) (k : key ≡ keyAt f r i)
     (fits : live f r i ≡ true → placeFits f h (placeAt f r i) ≡ true) where
   -- an earlier entry of the same key is one of the same place, where the entry is not skipped
-  rivals-same : cond (eqb key 1) i (first (hasKey f r key) 0 i) ≡ cond (live f r i) (first (hasPlace f r (placeAt f r i)) 0 i) i
+  repeats-same : cond (eqb key 1) i (first (hasKey f r key) 0 i) ≡ cond (live f r i) (first (hasPlace f r (placeAt f r i)) 0 i) i
   unfolding hasKey hasPlace keyAt placeFits
-  rivals-same = go (live f r i) refl k
+  repeats-same = go (live f r i) refl k
     where
       go : (l : Bool) → live f r i ≡ l → key ≡ cond l (placeAt f r i) 1
           → cond (eqb key 1) i (first (hasKey f r key) 0 i) ≡ cond l (first (hasPlace f r (placeAt f r i)) 0 i) i
@@ -118,14 +118,14 @@ module _ (f : List ℕ) (h : Headers) (r : Relocations) (i key : ℕ) (k : key �
           (first-same (hasKey f r (placeAt f r i)) (hasPlace f r (placeAt f r i)) i 0 (λ j a b. key-place (live f r j) (placeAt f r j) (placeAt f r i) z))
       go false e d = rw (d)
 
-  pub rival-hit : (j : ℕ) → cond (eqb key 1) i (first (hasKey f r key) 0 i) ≡ j → j < i
+  pub repeat-hit : (j : ℕ) → cond (eqb key 1) i (first (hasKey f r key) 0 i) ≡ j → j < i
       → ((live f r i && taken f r (placeAt f r i) i) ≡ true) × (live f r i ≡ true)
   unfolding taken
-  rival-hit j e l = rivals-hit (live f r i) (hasPlace f r (placeAt f r i)) i j (sym rivals-same ∙ e) l
+  repeat-hit j e l = repeats-hit (live f r i) (hasPlace f r (placeAt f r i)) i j (sym repeats-same ∙ e) l
 
-  pub rival-none : cond (eqb key 1) i (first (hasKey f r key) 0 i) ≡ i → (live f r i && taken f r (placeAt f r i) i) ≡ false
+  pub repeat-none : cond (eqb key 1) i (first (hasKey f r key) 0 i) ≡ i → (live f r i && taken f r (placeAt f r i) i) ≡ false
   unfolding taken
-  rival-none e = rivals-end (live f r i) (hasPlace f r (placeAt f r i)) i (sym rivals-same ∙ e)
+  repeat-none e = repeats-end (live f r i) (hasPlace f r (placeAt f r i)) i (sym repeats-same ∙ e)
 
 -- the first address out of range, one entry on
 pub outside-more : (f : List ℕ) (h : Headers) (symbols : Entry) (r : Relocations) (bias : ℕ) (t : Target) (outside i after : ℕ) (b : Bool)

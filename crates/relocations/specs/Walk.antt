@@ -27,8 +27,8 @@ unfoldable pub hasKey : List ℕ → Relocations → ℕ → ℕ → Bool
 hasKey f r key i = eqb (keyAt f r i) key
 
 -- where the search for an earlier entry of the same key begins: at the end where the entry is skipped
-unfoldable pub rivalsFrom : ℕ → ℕ → ℕ
-rivalsFrom key i = cond (eqb key 1) i 0
+unfoldable pub searchFrom : ℕ → ℕ → ℕ
+searchFrom key i = cond (eqb key 1) i 0
 
 -- the words relocated, and the first entry that check 13 refuses
 unfoldable pub walkedOf : List ℕ → Headers → Entry → Relocations → ℕ → Walked

@@ -7,7 +7,7 @@ ghost use Rattle.rules.specs.Relocations.{placeAt, kindAt, symbolAt, addendAt, 
 ghost use Rattle.rules.specs.Load.{addressOf, outOfRange};
 ghost use Rattle.rules.specs.Outcome.{refuse};
 ghost use Rattle.rules.specs.Answers.{ofWalk};
-ghost use Rattle.relocations.specs.Walk.{entryFault, keyAt, rivalsFrom, walkOf};
+ghost use Rattle.relocations.specs.Walk.{entryFault, keyAt, searchFrom, walkOf};
 use rules::Address;
 use rules::Entry;
 use rules::Headers;
@@ -239,8 +239,8 @@ fn key_at(f: &[u8], r: Relocations, i: u16) -> u64
     SKIPPED
 }
 
-fn rivals_from(key: u64, i: usize) -> usize
-    ensures { λ v. ⌜ v ≡ rivalsFrom key i ⌝ }
+fn search_from(key: u64, i: usize) -> usize
+    ensures { λ v. ⌜ v ≡ searchFrom key i ⌝ }
 {
     if key == SKIPPED {
         return i;
@@ -290,7 +290,7 @@ pub fn check_relocations(
         }
         let key = key_at(f, r, i);
         let end = i as usize;
-        let mut j = rivals_from(key, end);
+        let mut j = search_from(key, end);
         while j < end {
             if keys[j] == key {
                 break 'entries;

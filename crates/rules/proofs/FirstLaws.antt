@@ -1,13 +1,13 @@
 -- Laws of `first`, `someBelow` and `countBelow`.
 -- Assumes nothing.
 use Prim.Native.Nat.{ℕ, zero, suc, _+_, _-_, _≤_, _<_}
-use mathlib.Core.Path.{_≡_, refl, sym, ap, _∙_}
+use mathlib.Core.Path.{_≡_, refl, _∙_}
 use mathlib.Core.Bool.{Bool, true, false, cond}
 use mathlib.Core.Logic.{⊎-elim}
 use native.Mathlib.Nat.{eq-or-lt-of-le, add-zero, zero-add}
 use native.Mathlib.Numerals.{add-one}
 use native.Mathlib.Omega.{arith}
-use lib.Dec.{ltb, eqb}
+use lib.Dec.{eqb}
 use borrow.Author.Tests.{lt-ltb, le-ltb, eq-eqb, ne-eqb}
 use Rattle.rules.specs.Outcome.{good, refuse}
 use Rattle.rules.specs.First.{first, someBelow, countBelow, faultless}
@@ -27,15 +27,6 @@ module _ (f : ℕ → Bool) where
   first-none i n h l = let m : n - i ≡ 0 = omega arith in let e : i ≡ n = omega arith in rw m e
 
   -- for a caller: bounds, and what holds at and below the answer
-  pub first-ge : (k i : ℕ) → i ≤ first f i k
-  unfolding first
-  first-ge zero i = omega arith
-  first-ge (suc k) i = go (f i) (first-ge k (i + 1))
-    where
-      go : (b : Bool) → i + 1 ≤ first f (i + 1) k → i ≤ cond b i (first f (i + 1) k)
-      go true h = omega arith
-      go false h = omega arith
-
   pub first-le : (k i : ℕ) → first f i k ≤ i + k
   unfolding first
   first-le zero i = omega arith

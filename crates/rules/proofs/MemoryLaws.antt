@@ -93,6 +93,7 @@ fill-part a k j v d e p h q =
     let f : replicate k v ≡ over (take k (drop a d)) (replicate k v) = simp n at (over-fill (take k (drop a d)) v) in
     rw (q, p, n) (ap (λ (t : List ℕ). take a d ++ (t ++ drop k (drop a d))) f ∙ put-part a k d (replicate k v) r)
 
+-- for a reader: bytes put where they fit are what was before, the bytes, and what was after
 over-split : (d s : List ℕ) → length s ≤ length d → over d s ≡ s ++ drop (length s) d
 unfolding over
 over-split [] [] h = refl

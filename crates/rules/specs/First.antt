@@ -19,6 +19,10 @@ unfoldable pub countBelow : (ℕ → Bool) → ℕ → ℕ
 countBelow f zero = 0
 countBelow f (suc n) = countBelow f n + cond (f n) 1 0
 
+-- no fault where the lowest faulty index is n, the end; else the number with that index
+abbrev pub faultAt : ℕ → ℕ → ℕ → Outcome (Unit {0})
+faultAt number n lowest = cond (eqb lowest n) (good tt) (refuse number lowest)
+
 -- no fault at the indices below n; else the number with the lowest faulty index
 abbrev pub faultless : ℕ → (ℕ → Bool) → ℕ → Outcome (Unit {0})
-faultless number fault n = cond (eqb (first fault 0 n) n) (good tt) (refuse number (first fault 0 n))
+faultless number fault n = faultAt number n (first fault 0 n)

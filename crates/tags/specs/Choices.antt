@@ -2,10 +2,11 @@
 -- Assumes nothing.
 use Prim.Native.Nat.{ℕ}
 use lib.Dec.{eqb}
-use mathlib.Core.Bool.{cond}
-use Rattle.rules.specs.Outcome.{Outcome, good, refuse, andThen, require}
+use Rattle.rules.specs.Outcome.{Outcome, andThen, require}
+use Rattle.rules.specs.First.{faultAt}
 
+-- check 14: as many choices as globals, then each of them good
 unfoldable pub choicesFrom : ℕ → ℕ → ℕ → Outcome (Unit {0})
 choicesFrom globals fault choices =
     andThen (require (eqb choices globals) 14 globals) (λ _.
-    cond (eqb fault globals) (good tt) (refuse 14 fault))
+    faultAt 14 globals fault)

@@ -49,10 +49,7 @@ pub fn check_choices(globals: u16, fault: u16, choices: &[u8]) -> Checked
     if choices.len() != globals as usize {
         return refused(globals);
     }
-    if fault != globals {
-        return refused(fault);
-    }
-    Checked::Passed
+    reads::check_fault(BAD_CHOICE, globals, fault)
 }
 
 // The granules of one global take a tag.

@@ -14,6 +14,7 @@ pub const PT_DYNAMIC: u32 = 2;
 const WRITABLE: u32 = 2;
 
 /// A program header as it stands in the file.
+#[derive(Clone, Default)]
 pub struct Header {
     pub kind: u32,
     pub flags: u32,

@@ -11,11 +11,11 @@ returns c = rw (← c .before .before .check-lending .ensures, c .enum-told2 .gi
 
 returns-2 : tie.Need-returns-2
 unfolding lentIn
-returns-2 c = rw (← c .before .before .before .before .before .check-lending .ensures, c .before .before .before .enum-told .given .1, ← c .before .before .check-addresses .ensures, c .enum-told4 .given .1)
+returns-2 c = rw (← c .before .before .before .before .before .check-lending .ensures, c .before .before .before .enum-told .given .1, ← c .before .before .check-fault .ensures, c .enum-told4 .given .1)
 
 returns-3 : tie.Need-returns-3
 unfolding lentIn
-returns-3 c = rw (← c .before .before .before .before .before .before .check-lending .ensures, c .before .before .before .before .enum-told .given .1, ← c .before .before .before .check-addresses .ensures, c .before .enum-told3 .given .1) (c .check-choices .ensures)
+returns-3 c = rw (← c .before .before .before .before .before .before .check-lending .ensures, c .before .before .before .before .enum-told .given .1, ← c .before .before .before .check-fault .ensures, c .before .enum-told3 .given .1) (c .check-choices .ensures)
 
 pub check-lent-spec : {M : Type 1} → statement M
 check-lent-spec =

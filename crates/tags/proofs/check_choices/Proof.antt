@@ -12,12 +12,7 @@ returns c = rw (ne-eqb _ _ (c .before .if1 .taken)) (c .refused .ensures)
 
 returns-2 : tie.Need-returns-2
 unfolding choicesFrom
-returns-2 c = rw (eq-eqb _ _ (c .before .before .if1 .left), ne-eqb _ _ (c .before .if2 .taken)) (c .refused2 .ensures)
-
-returns-3 : tie.Need-returns-3
-unfolding choicesFrom
-returns-3 c = rw (eq-eqb _ _ (c .before .if1 .left), eq-eqb _ _ (c .if2 .left))
+returns-2 c = rw (eq-eqb _ _ (c .before .if1 .left)) (c .check-fault .ensures)
 
 pub check-choices-spec : {M : Type 1} → statement M
-check-choices-spec =
-    tie.close (tie.spec (search needs) returns (search needs) returns-2 returns-3)
+check-choices-spec = tie.close (tie.spec (search needs) returns (search needs) returns-2)

@@ -35,6 +35,12 @@ fn one(r: &mut Random, list: &[usize]) -> Option<usize> {
     (!list.is_empty()).then(|| r.pick(list))
 }
 
+/// Where one of a list stands that has another before it.
+fn later(r: &mut Random, list: &[usize]) -> Option<usize> {
+    given(list.len() > 1)?;
+    Some(r.from(1, list.len() as u64 - 1) as usize)
+}
+
 fn given(condition: bool) -> Option<()> {
     condition.then_some(())
 }
@@ -438,8 +444,7 @@ pub const DAMAGES: &[Damage] = &[
     }),
     damage(4, "the one before grows", |m, r| {
         let loads = m.loads();
-        given(loads.len() > 1)?;
-        let k = r.from(1, loads.len() as u64 - 1) as usize;
+        let k = later(r, &loads)?;
         let before = loads[k - 1];
         m.headers[before].memory_size =
             (m.headers[loads[k]].address + 1).wrapping_sub(m.headers[before].address);
@@ -447,8 +452,7 @@ pub const DAMAGES: &[Damage] = &[
     }),
     damage(4, "order swapped", |m, r| {
         let loads = m.loads();
-        given(loads.len() > 1)?;
-        let k = r.from(1, loads.len() as u64 - 1) as usize;
+        let k = later(r, &loads)?;
         m.headers.swap(loads[k - 1], loads[k]);
         refused(4, loads[k])
     }),
@@ -484,8 +488,7 @@ pub const DAMAGES: &[Damage] = &[
     }),
     damage(4, "two bad", |m, r| {
         let loads = m.loads();
-        given(loads.len() > 1)?;
-        let k = r.from(1, loads.len() as u64 - 1) as usize;
+        let k = later(r, &loads)?;
         let first = loads[r.index(k)];
         m.headers[first].align = 3;
         m.headers[loads[k]].memory_size = 0;
@@ -880,8 +883,7 @@ pub const DAMAGES: &[Damage] = &[
     }),
     damage(10, "place, later kind", |m, r| {
         let live = m.live();
-        given(live.len() > 1)?;
-        let k = r.from(1, live.len() as u64 - 1) as usize;
+        let k = later(r, &live)?;
         let first = live[r.index(k)];
         m.relocations[live[k]].kind = 1026;
         m.relocations[first].place = 4;
@@ -941,8 +943,7 @@ pub const DAMAGES: &[Damage] = &[
     }),
     damage(11, "repeated", |m, r| {
         let live = m.live();
-        given(live.len() > 1)?;
-        let k = r.from(1, live.len() as u64 - 1) as usize;
+        let k = later(r, &live)?;
         m.relocations[live[k]].place = m.relocations[live[r.index(k)]].place;
         refused(11, live[k])
     }),

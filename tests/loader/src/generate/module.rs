@@ -1,6 +1,7 @@
 //! Valid modules from random parameters, in a form that damages can edit before it is assembled.
 
 use crate::answers::Call;
+pub use crate::headers::Header;
 use crate::random::Random;
 use crate::{ADDRESS_END, LARGEST};
 
@@ -45,17 +46,6 @@ pub const PASSED: [u64; 18] = [
     (1 << 32) + 7,
     (1 << 32) + 17,
 ];
-
-#[derive(Clone, Default)]
-pub struct Header {
-    pub kind: u32,
-    pub flags: u32,
-    pub offset: u64,
-    pub address: u64,
-    pub file_size: u64,
-    pub memory_size: u64,
-    pub align: u64,
-}
 
 impl Header {
     pub fn end(&self) -> u64 {
