@@ -3,7 +3,8 @@
  *     cc -std=c99 -Iinclude examples/host.c target/staticlib/libhagolstan.a -o target/host
  *     target/host MODULE [BIAS]
  *
- * Ends with 0 when the module is taken, 1 when it is refused, 2 when it cannot be read. */
+ * Ends with 0 when the module is taken, 1 when it is refused, 2 when it cannot be read or BIAS is no number. */
+#include <errno.h>
 #include <inttypes.h>
 #include <stdio.h>
 #include <stdlib.h>
@@ -28,7 +29,7 @@ static const struct {
     {"a global's descriptor is cut short, or its number is too long", "descriptor"},
     {"a global lies outside every PT_LOAD, or there are over 1,024", "descriptor"},
     {"the kind or the symbol of a relocation is not allowed", "relocation"},
-    {"the place of a relocation is odd, read-only, outside the module or used before", "relocation"},
+    {"the place of a relocation is no multiple of 8, read-only, outside the module or used before", "relocation"},
     {"the lent memory, the tag plane or the bias does not fit the module", ""},
     {"a relocated address is below 0 or at least 2^48", "relocation"},
     {"the number of tag choices is not the number of globals, or a choice is bad", "choice, or the number of globals"},
@@ -80,16 +81,34 @@ static void show_pointers(uint64_t bias)
     }
 }
 
+/* A whole number below 2^64, decimal or 0x and hexadecimal. */
+static int read_bias(const char *word, uint64_t *bias)
+{
+    char *end;
+    errno = 0;
+    *bias = strtoull(word, &end, 0);
+    return '0' <= *word && *word <= '9' && !*end && !errno;
+}
+
 int main(int count, char **words)
 {
-    FILE *in = count == 2 || count == 3 ? fopen(words[1], "rb") : NULL;
-    if (!in) {
+    uint64_t bias = 0x40000000;
+    if (count < 2 || count > 3 || (count == 3 && !read_bias(words[2], &bias))) {
         fprintf(stderr, "usage: host MODULE [BIAS]\n");
         return 2;
     }
+    FILE *in = fopen(words[1], "rb");
+    if (!in) {
+        perror(words[1]);
+        return 2;
+    }
     size_t length = fread(file, 1, sizeof file, in);
+    int failed = ferror(in);
     fclose(in);
-    uint64_t bias = count == 3 ? strtoull(words[2], NULL, 0) : 0x40000000;
+    if (failed) {
+        fprintf(stderr, "%s: cannot be read\n", words[1]);
+        return 2;
+    }
 
     uint64_t answer = hagolstan_examine(file, length);
     if (HAGOLSTAN_REFUSAL(answer))
