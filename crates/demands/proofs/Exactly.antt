@@ -1,22 +1,65 @@
--- A load is taken exactly when every check passes, and refused exactly when one is the first that does not.
+-- A call is taken exactly when every check of its list passes, and refused exactly by the first that does not.
 -- Assumes nothing.
 use Prim.Native.Nat.{ℕ}
-use mathlib.Core.Path.{_≡_}
-use mathlib.Core.Bool.{_&&_}
+use mathlib.Core.Path.{_≡_, sym, ap, _∙_}
+use mathlib.Core.Bool.{true, _&&_}
 use mathlib.Core.List.{List}
 use native.Mathlib.Omega.{arith}
-use Rattle.rules.specs.Outcome.{good, bad, require}
+use Rattle.rules.specs.Outcome.{Outcome, good, bad, andThen, require}
 use Rattle.rules.specs.Relocations.{relocationsCheck}
-use Rattle.rules.specs.Examine.{moduleOf}
+use Rattle.rules.specs.Examine.{moduleOf, factsOf, examinedOf}
 use Rattle.rules.specs.Load.{Loaded, loadOf, loaded, memoryFits, planeFits, loadsEnd, addressesCheck, choicesCheck, globalsIn}
 use Rattle.rules.specs.declared.Refusal.{Refusal}
 use Rattle.rules.specs.declared.Module.{Module}
 use Rattle.rules.proofs.OutcomeLaws.{and-left, and-right, require-held, andThen-good}
-use Rattle.laws.proofs.Checks.{andThen-bad, require-stopped}
-use Rattle.demands.specs.Demands.{Passes, Taken, Refused, by-reading, by-relocations, by-lending, by-addresses, by-choices, Exactly}
+use Rattle.laws.proofs.Checks.{andThen-bad}
+use Rattle.demands.proofs.Checks.{all-runs, runs-all, first-runs, runs-first, module-runs, examined-runs, load-runs}
+use Rattle.demands.specs.Table.{runs, theModule, readerChecks, examineChecks, loadChecks}
+use Rattle.demands.specs.Demands.{Exactly, SameFacts}
+
+-- an outcome that runs a list of checks
+exactly : {A : Type 0} (o : Outcome A) (checks : List (Outcome (Unit {0}))) (a : A) → o ≡ andThen (runs checks) (λ _. good a)
+    → Exactly o checks a
+exactly {A} o checks a q = record {
+  taken-if = λ all. let e = all-runs checks all in q ∙ rw e;
+  taken-only-if = λ b e.
+      let h = andThen-good (runs checks) _ (sym q ∙ e) in
+      let z = h .rest in
+      let same : b ≡ a = cc in
+      (runs-all checks (h .here), same);
+  refused-if = λ r first. let e = first-runs checks first in q ∙ rw e;
+  refused-only-if = λ r e.
+      andThen-bad (runs checks) _ (sym q ∙ e) (runs-first checks) (λ _ _ s. absurd (let z : _≡_ {A = ℕ} 0 1 = cc in omega arith));
+}
+
+pub exactly-read : (f : List ℕ) → Exactly (moduleOf f) (readerChecks f) (theModule f)
+exactly-read f = exactly (moduleOf f) (readerChecks f) (theModule f) (module-runs f)
+
+pub exactly-examined : (f : List ℕ) → Exactly (examinedOf f) (examineChecks f) (factsOf f (theModule f))
+exactly-examined f = exactly (examinedOf f) (examineChecks f) (factsOf f (theModule f)) (examined-runs f)
+
+pub exactly-loaded : (f : List ℕ) (bias n p : ℕ) (choices : List ℕ)
+    → Exactly (loadOf f bias n p choices) (loadChecks f bias n p choices) (loaded f (theModule f) bias n p choices)
+exactly-loaded f bias n p choices =
+    exactly (loadOf f bias n p choices) (loadChecks f bias n p choices) (loaded f (theModule f) bias n p choices) (load-runs f bias n p choices)
+
+-- checks 1 to 14 pass, in a file whose module is m
+pub record Passes (f : List ℕ) (bias n p : ℕ) (choices : List ℕ) (m : Module) : Type 0 where
+  pub reads : moduleOf f ≡ good m
+  pub relocates : relocationsCheck f (m .headers) (m .dynamic) (m .relocations) ≡ good tt
+  pub memory-fits : memoryFits (loadsEnd f (m .headers)) n bias ≡ true
+  pub plane-fits : planeFits n p ≡ true
+  pub addresses : addressesCheck f (m .headers) (m .dynamic) (m .relocations) bias ≡ good tt
+  pub chosen : choicesCheck (globalsIn f m) choices ≡ good tt
+
+-- l is what a load of a module that passes leaves
+pub record Taken (f : List ℕ) (bias n p : ℕ) (choices : List ℕ) (l : Loaded) : Type 0 where
+  pub from : Module
+  pub passes : Passes f bias n p choices from
+  pub leaves : l ≡ loaded f from bias n p choices
 
 module _ (f : List ℕ) (bias n p : ℕ) (choices : List ℕ) where
-  passes-taken : (m : Module) → Passes f bias n p choices m → loadOf f bias n p choices ≡ good (loaded f m bias n p choices)
+  pub passes-taken : (m : Module) → Passes f bias n p choices m → loadOf f bias n p choices ≡ good (loaded f m bias n p choices)
   unfolding loadOf
   passes-taken m c = rw (c .reads, c .relocates, c .memory-fits, c .plane-fits, c .addresses, c .chosen)
 
@@ -43,26 +86,19 @@ module _ (f : List ℕ) (bias n p : ℕ) (choices : List ℕ) where
         leaves = cc (g .rest);
       }
 
-  first-refused : (r : Refusal) → Refused f bias n p choices r → loadOf f bias n p choices ≡ bad r
-  unfolding loadOf
-  first-refused r (by-reading a) = rw a
-  first-refused r (by-relocations m a b) = rw (a, b)
-  first-refused r (by-lending m a b c e) = rw (a, b, c, e)
-  first-refused r (by-addresses m a b c d) = rw (a, b, c, d)
-  first-refused r (by-choices m a b c d g) = rw (a, b, c, d, g)
+  examined-taken : (l : Loaded) → loadOf f bias n p choices ≡ good l → examinedOf f ≡ good (l .facts)
+  unfolding examinedOf
+  examined-taken l e =
+      let t = taken-passes l e in
+      let q : examinedOf f ≡ good (factsOf f (t .from)) = rw (t .passes .reads, t .passes .relocates) in
+      q ∙ ap (λ (z : Loaded). good (z .facts)) (sym (t .leaves))
 
-  refused-first : (r : Refusal) → loadOf f bias n p choices ≡ bad r → Refused f bias n p choices r
-  unfolding loadOf
-  refused-first r e =
-      andThen-bad (moduleOf f) _ e by-reading (λ m a s.
-      andThen-bad (relocationsCheck f (m .headers) (m .dynamic) (m .relocations)) _ s (by-relocations m a) (λ _ b s.
-      andThen-bad (require (memoryFits (loadsEnd f (m .headers)) n bias && planeFits n p) 12 0) _ s
-      (λ q. let w = require-stopped (memoryFits (loadsEnd f (m .headers)) n bias && planeFits n p) 12 0 q in by-lending m a b (w .0) (w .1))
-      (λ _ c s.
-      let fits = require-held (memoryFits (loadsEnd f (m .headers)) n bias && planeFits n p) 12 0 c in
-      andThen-bad (addressesCheck f (m .headers) (m .dynamic) (m .relocations) bias) _ s (by-addresses m a b fits) (λ _ d s.
-      andThen-bad (choicesCheck (globalsIn f m) choices) _ s (by-choices m a b fits d) (λ _ g s.
-      absurd (let z : _≡_ {A = ℕ} 0 1 = cc in omega arith))))))
+  examined-refused : (r : Refusal) → examinedOf f ≡ bad r → loadOf f bias n p choices ≡ bad r
+  unfolding examinedOf loadOf
+  examined-refused r e =
+      andThen-bad (moduleOf f) _ e (λ a. rw a) (λ m a e.
+      andThen-bad (relocationsCheck f (m .headers) (m .dynamic) (m .relocations)) _ e (λ b. rw (a, b))
+      (λ _ _ e. absurd (let z : _≡_ {A = ℕ} 0 1 = cc in omega arith)))
 
-  pub exactly : Exactly f bias n p choices
-  exactly = record { taken-if = passes-taken; taken-only-if = taken-passes; refused-if = first-refused; refused-only-if = refused-first }
+  pub same-facts : SameFacts f bias n p choices
+  same-facts = record { facts-examined = examined-taken; refusal-examined = examined-refused }

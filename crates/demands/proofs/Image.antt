@@ -21,7 +21,7 @@ use Rattle.laws.proofs.Loads.{load-good, load-end, loads-apart}
 use Rattle.demands.proofs.Plane.{replicate-zero}
 use Rattle.demands.specs.Demands.{FilePart, Image}
 
-part-length : (s : List ℕ) (at n : ℕ) → at + n ≤ length s → length (part s at n) ≡ n
+pub part-length : (s : List ℕ) (at n : ℕ) → at + n ≤ length s → length (part s at n) ≡ n
 part-length s at n h = simp (length-take, length-drop) (omega arith)
 
 part-at : (s : List ℕ) (at n i : ℕ) → i < n → getD (part s at n) i 0 ≡ getD s (at + i) 0

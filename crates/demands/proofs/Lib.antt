@@ -1,9 +1,17 @@
+pub mod Lowest
+pub mod Table
+pub mod Checks
 pub mod Exactly
 pub mod Reading
 pub mod Plane
 pub mod Image
+pub mod Guards
+pub mod Plain
 pub mod Sources
 pub mod Standing
 pub mod Tags
 pub mod Refusals
+pub mod Steps
 pub mod Theorem
+pub mod Calls
+pub mod Promises

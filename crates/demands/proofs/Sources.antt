@@ -11,30 +11,16 @@ use borrow.Author.Tests.{leb-true, le-leb, lt-ltb}
 use Rattle.rules.specs.Limits.{granule}
 use Rattle.rules.specs.Bytes.{le}
 use Rattle.rules.specs.Relocations.{placeAt, addendAt, targetAt}
-use Rattle.rules.specs.Load.{globalAt, planeOf, tagAddress, sourceTag, tagOfEntry}
+use Rattle.rules.specs.Load.{globalAt, planeOf, Source, none, at, sourceOf, tagOf, tagOfEntry}
 use Rattle.rules.specs.declared.Headers.{Headers}
 use Rattle.rules.specs.declared.Dynamic.{Dynamic}
 use Rattle.rules.specs.declared.Relocations.{Relocations}
 use Rattle.rules.specs.declared.Global.{Global}
-use Rattle.rules.specs.declared.Target.{Target}
-use Rattle.rules.specs.declared.Target.the-variants.{Base, Defined, Undefined, Barred}
 use Rattle.rules.proofs.OutcomeLaws.{and-left}
 use Rattle.laws.proofs.Checks.{cond-case}
 use Rattle.laws.proofs.Globals.{Rising}
 use Rattle.demands.proofs.Plane.{plane-holds, plane-empty}
-use Rattle.demands.specs.Demands.{Source, none, at, sourceOf, Holds}
-
--- the tag of a source
-abbrev pub tagOf : List ℕ → ℕ → ℕ → Source → ℕ
-tagOf plane bias n none = 0
-tagOf plane bias n (at s) = tagAddress plane bias n s
-
-pub source-tag : (plane : List ℕ) (bias n : ℕ) (t : Target) (addend loaded : ℕ)
-    → sourceTag plane bias n t addend loaded ≡ tagOf plane bias n (sourceOf bias t addend loaded)
-source-tag plane bias n Base addend loaded = refl
-source-tag plane bias n (Defined value) addend loaded = refl
-source-tag plane bias n Undefined addend loaded = refl
-source-tag plane bias n Barred addend loaded = refl
+use Rattle.demands.specs.Demands.{Holds}
 
 module _ (plane : List ℕ) (below : (x : ℕ) → getD plane x 0 < 16) where
   tagOf-small : (bias n : ℕ) (s : Source) → tagOf plane bias n s < 16
@@ -45,8 +31,7 @@ module _ (plane : List ℕ) (below : (x : ℕ) → getD plane x 0 < 16) where
 pub entry-small : (f : List ℕ) (h : Headers) (d : Dynamic) (r : Relocations) (bias : ℕ) (image plane : List ℕ) → ((x : ℕ) → getD plane x 0 < 16)
     → (k : ℕ) → tagOfEntry f h d r bias image plane k < 16
 entry-small f h d r bias image plane below k =
-    let e = source-tag plane bias (length image) (targetAt f h d r k) (addendAt f r k) (le 8 image (placeAt f r k)) in
-    rw e (tagOf-small plane below bias (length image) (sourceOf bias (targetAt f h d r k) (addendAt f r k) (le 8 image (placeAt f r k))))
+    tagOf-small plane below bias (length image) (sourceOf bias (targetAt f h d r k) (addendAt f r k) (le 8 image (placeAt f r k)))
 
 module _ (gs : List Global) (choices : List ℕ) (p limit : ℕ) (rising : Rising gs limit) (fits : limit ≤ 16 * p) (bias n : ℕ) (planed : 16 * p ≡ n) where
   pub tag-held : (j : ℕ) → j < length gs → (s : Source) → Holds bias (globalAt gs j) s → tagOf (planeOf gs choices p) bias n s ≡ getD choices j 0

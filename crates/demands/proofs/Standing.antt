@@ -15,14 +15,15 @@ use Rattle.rules.specs.Load.{memoryFits, planeFits, loadsEnd, imageOf, natural,
 use Rattle.rules.specs.declared.Module.{Module}
 use Rattle.rules.proofs.OutcomeLaws.{and-left, and-right}
 use Rattle.laws.proofs.Checks.{le-or-lt}
-use Rattle.demands.proofs.Reading.{module-reads}
+use Rattle.demands.proofs.Reading.{Reads, module-reads}
+use Rattle.demands.proofs.Exactly.{Passes}
 use Rattle.laws.proofs.Globals.{Rising, globals-rising}
 use Rattle.laws.proofs.Places.{address-small, places-apart}
 use Rattle.demands.proofs.Plane.{Chosen, choices-chosen, plane-holds, plane-small}
 use Rattle.demands.proofs.Image.{image-size, image-holds}
 use Rattle.demands.proofs.Sources.{entry-small}
 use Rattle.laws.proofs.Writes.{Apart, writes-length, writes-at, writes-other, le-bytes}
-use Rattle.demands.specs.Demands.{Reads, Passes, Relocates, Leaves}
+use Rattle.demands.specs.Demands.{Relocates, Leaves}
 
 -- the lent memory and the bias fit
 pub record Lent (last n bias : ℕ) : Type 0 where

@@ -2,7 +2,7 @@
 -- Assumes nothing.
 use Prim.Native.Nat.{ℕ, suc, _*_, _≤_, _<_}
 use mathlib.Core.Path.{_≡_, refl, sym, ap, _∙_}
-use mathlib.Core.Bool.{Bool, true, false, cond, _&&_}
+use mathlib.Core.Bool.{Bool, true, false, cond}
 use mathlib.Core.List.{List}
 use mathlib.Core.Logic.{inl, inr, ⊎-elim}
 use native.Mathlib.Nat.{eq-or-lt-of-le}
@@ -11,23 +11,26 @@ use lib.ListN.{length, getD}
 use lib.Dec.{eqb}
 use Rattle.rules.specs.Outcome.{Outcome, good, bad, require, refusal}
 use Rattle.rules.specs.First.{first, faultless}
-use Rattle.rules.specs.Bytes.{le}
-use Rattle.rules.specs.Relocations.{placeAt, addendAt, targetAt}
-use Rattle.rules.specs.Load.{loadOf, loaded, loadsEnd, imageOf, natural, addressAt, badChoice, choicesCheck, globalsIn, globalAt, endOf, planeOf, writes, memoryFits, planeFits}
-use Rattle.rules.specs.Plain.{plainOf}
+use Rattle.rules.specs.Relocations.{relocationsCheck}
+use Rattle.rules.specs.Examine.{moduleOf}
+use Rattle.rules.specs.Load.{loadOf, loaded, loadsEnd, imageOf, natural, addressAt, addressesCheck, badChoice, choicesCheck}
+use Rattle.rules.specs.Load.{globalsIn, globalAt, endOf, planeOf, tagOf, writes, memoryFits, planeFits}
 use Rattle.rules.specs.declared.Refusal.{Refusal}
 use Rattle.rules.specs.declared.Global.{Global}
 use Rattle.rules.specs.declared.Module.{Module}
 use Rattle.laws.proofs.Checks.{le-or-lt, andThen-bad, require-stopped}
 use Rattle.laws.proofs.KnownTags.{entries-base}
-use Rattle.demands.proofs.Exactly.{exactly}
+use Rattle.demands.proofs.Exactly.{Passes, passes-taken}
 use Rattle.laws.proofs.Globals.{Rising}
 use Rattle.demands.proofs.Plane.{Chosen, plane-holds, plane-empty}
 use Rattle.demands.proofs.Image.{image-size}
-use Rattle.demands.proofs.Sources.{tagOf, source-tag, tag-held, tag-unheld}
+use Rattle.demands.proofs.Plain.{segments-same, bare-checked, bare-words}
+use Rattle.demands.proofs.Sources.{tag-held, tag-unheld}
 use Rattle.laws.proofs.Writes.{writes-length, writes-agree, writes-at, low-bytes, top-byte, bare-byte}
 use Rattle.demands.proofs.Standing.{Stands, passes-stands, word, tag, tag-small}
-use Rattle.demands.specs.Demands.{Reads, Passes, by-choices, Relocates, topPlace, sourceAt, Holds, Abut, NoTop, Agrees, Matches, Alike, Rechosen, refused-again, taken-again, Tags}
+use Rattle.demands.specs.Plain.{plainOf}
+use Rattle.demands.specs.Demands.{Relocates, topPlace, sourceAt, Holds, Abut, NoTop, Agrees, Matches, Alike, Rechosen}
+use Rattle.demands.specs.Demands.{refused-again, taken-again, Tags}
 
 -- of two globals in rising order, one that ends where the other starts is the one before it
 abut-next : (gs : List Global) (limit : ℕ) → Rising gs limit → (i j : ℕ) → i < length gs → j < length gs
@@ -78,6 +81,13 @@ choices-number gs choices r e =
     (λ q. ap (λ (r : Refusal). r .number) (require-stopped (eqb (length choices) (length gs)) 14 (length gs) q .1))
     (λ _ _ q. faultless-number 14 (badChoice gs choices) (length gs) q)
 
+choices-refused : (f : List ℕ) (bias n p : ℕ) (choices : List ℕ) (m : Module) → moduleOf f ≡ good m
+    → relocationsCheck f (m .headers) (m .dynamic) (m .relocations) ≡ good tt → memoryFits (loadsEnd f (m .headers)) n bias ≡ true
+    → planeFits n p ≡ true → addressesCheck f (m .headers) (m .dynamic) (m .relocations) bias ≡ good tt
+    → (r : Refusal) → choicesCheck (globalsIn f m) choices ≡ bad r → loadOf f bias n p choices ≡ bad r
+unfolding loadOf
+choices-refused f bias n p choices m a b c d g r e = rw (a, b, c, d, g, e)
+
 module _ (f : List ℕ) (bias n p : ℕ) (m : Module) where
   -- the bare word of an entry, and the plain memory
   abbrev pub bareWord : ℕ → ℕ
@@ -90,11 +100,18 @@ module _ (f : List ℕ) (bias n p : ℕ) (m : Module) where
   taggedMemory choices = writes f (m .relocations) (word f bias n p choices m) (imageOf f (m .headers) n) (m .relocations .entries)
 
   -- the plain loader takes what the load takes
-  plain-takes : (choices : List ℕ) → Passes f bias n p choices m → Reads f m → plainOf f bias n ≡ good plainMemory
+  plain-takes : (choices : List ℕ) → Passes f bias n p choices m → Stands f bias n p choices m → plainOf f bias n ≡ good plainMemory
   unfolding plainOf
-  plain-takes choices c r =
+  plain-takes choices c s =
+      let r = s .reading in
       let e = entries-base f (m .dynamic) (r .entries) in
-      rw (r .headers, r .loads, r .dynamic, e, r .relocations, c .relocates, c .memory-fits, c .addresses)
+      let H = m .headers in
+      let D = m .dynamic in
+      let R = m .relocations in
+      let b = bare-checked f H (r .headers) (r .loads) D R bias (c .relocates) (c .addresses) in
+      let i = segments-same f H n (r .loads) (s .lent .holds) (H .count) (omega arith) in
+      let w = bare-words f H (r .headers) (r .loads) D R bias (c .relocates) (c .addresses) (imageOf f H n) (s .apart) (R .entries) (omega arith) in
+      rw (r .headers, r .loads, r .dynamic, e, r .relocations, c .relocates, c .memory-fits, b, i, w)
 
   -- memories with bare and with tagged words, or with tags of two lists of choices
   bare-tagged : (choices : List ℕ) (x : ℕ) → NoTop f m x → getD plainMemory x 0 ≡ getD (taggedMemory choices) x 0
@@ -102,6 +119,9 @@ module _ (f : List ℕ) (bias n p : ℕ) (m : Module) where
       writes-agree f (m .relocations) (imageOf f (m .headers) n) bareWord (word f bias n p choices m)
       (λ k. sym (low-bytes (bareWord k) (tag f bias n p choices m k))) (m .relocations .entries) x
       (λ k l t. out k (record { listed = l; unskipped = t }))
+
+  words-length : (choices : List ℕ) → length (taggedMemory choices) ≡ length (imageOf f (m .headers) n)
+  words-length choices = writes-length f (m .relocations) (imageOf f (m .headers) n) (word f bias n p choices m) (m .relocations .entries)
 
   module _ (choices : List ℕ) (s : Stands f bias n p choices m) where
     fits : loadsEnd f (m .headers) ≤ 16 * p
@@ -114,11 +134,7 @@ module _ (f : List ℕ) (bias n p : ℕ) (m : Module) where
         ∙ top-byte (bareWord k) (tag f bias n p choices m k) (s .small k e) (tag-small f bias n p choices m s k)
 
     entry-tag : (k : ℕ) → tag f bias n p choices m k ≡ tagOf (planeOf (globalsIn f m) choices p) bias n (sourceAt f m bias n k)
-    entry-tag k =
-        source-tag (planeOf (globalsIn f m) choices p) bias (length (imageOf f (m .headers) n))
-        (targetAt f (m .headers) (m .dynamic) (m .relocations) k) (addendAt f (m .relocations) k)
-        (le 8 (imageOf f (m .headers) n) (placeAt f (m .relocations) k))
-        ∙ ap (λ (z : ℕ). tagOf (planeOf (globalsIn f m) choices p) bias z (sourceAt f m bias n k)) (image-size f (m .headers) n)
+    entry-tag k = ap (λ (z : ℕ). tagOf (planeOf (globalsIn f m) choices p) bias z (sourceAt f m bias n k)) (image-size f (m .headers) n)
 
     held-top : (k j : ℕ) → Relocates f m k → j < length (globalsIn f m) → Holds bias (globalAt (globalsIn f m) j) (sourceAt f m bias n k)
         → getD (taggedMemory choices) (topPlace f m k) 0 ≡ getD choices j 0
@@ -129,7 +145,7 @@ module _ (f : List ℕ) (bias n p : ℕ) (m : Module) where
     agrees : Agrees f bias n choices m plainMemory (taggedMemory choices)
     agrees = record {
       same-length = writes-length f (m .relocations) (imageOf f (m .headers) n) bareWord (m .relocations .entries)
-          ∙ sym (writes-length f (m .relocations) (imageOf f (m .headers) n) (word f bias n p choices m) (m .relocations .entries));
+          ∙ sym (words-length choices);
       others = bare-tagged choices;
       bare = λ k e.
           writes-at f (m .relocations) (imageOf f (m .headers) n) bareWord (m .relocations .entries) (s .apart) k 7 (e .listed) (e .unskipped) (omega arith)
@@ -138,6 +154,7 @@ module _ (f : List ℕ) (bias n p : ℕ) (m : Module) where
       unheld = λ k e out.
           top-tag k e ∙ entry-tag k
           ∙ tag-unheld (globalsIn f m) choices p (loadsEnd f (m .headers)) (s .rising) fits bias n (s .planed) (sourceAt f m bias n k) out;
+      weak = λ k e q. top-tag k e ∙ rw q;
     }
 
     matching : (k j : ℕ) → Relocates f m k → j < length (globalsIn f m) → Holds bias (globalAt (globalsIn f m) j) (sourceAt f m bias n k)
@@ -156,6 +173,10 @@ module _ (f : List ℕ) (bias n p : ℕ) (m : Module) where
     alike : (choices′ : List ℕ) → Alike f p m (loaded f m bias n p choices) (loaded f m bias n p choices′)
     alike choices′ = record {
       same-facts = refl;
+      plane-length =
+          plane-holds (globalsIn f m) choices′ p (loadsEnd f (m .headers)) (s .rising) fits .plane-length
+          ∙ sym (plane-holds (globalsIn f m) choices p (loadsEnd f (m .headers)) (s .rising) fits .plane-length);
+      memory-length = words-length choices′ ∙ sym (words-length choices);
       same-plane = λ x u out.
           plane-empty (globalsIn f m) choices′ p (loadsEnd f (m .headers)) (s .rising) fits x out
           ∙ sym (plane-empty (globalsIn f m) choices p (loadsEnd f (m .headers)) (s .rising) fits x out);
@@ -169,7 +190,7 @@ module _ (f : List ℕ) (bias n p : ℕ) (m : Module) where
             → Rechosen f p m (loaded f m bias n p choices) (loadOf f bias n p choices′)
         go (good u) e =
             taken-again (loaded f m bias n p choices′)
-            (exactly f bias n p choices′ .taken-if m (record {
+            (passes-taken f bias n p choices′ m (record {
               reads = c .reads;
               relocates = c .relocates;
               memory-fits = c .memory-fits;
@@ -179,15 +200,14 @@ module _ (f : List ℕ) (bias n p : ℕ) (m : Module) where
             }))
             (alike choices′)
         go (bad r) e =
-            let both : (memoryFits (loadsEnd f (m .headers)) n bias && planeFits n p) ≡ true = rw (c .memory-fits, c .plane-fits) in
-            refused-again r (exactly f bias n p choices′ .refused-if r (by-choices m (c .reads) (c .relocates) both (c .addresses) e))
+            refused-again r (choices-refused f bias n p choices′ m (c .reads) (c .relocates) (c .memory-fits) (c .plane-fits) (c .addresses) r e)
             (choices-number (globalsIn f m) choices′ r e)
 
   pub tags : (choices : List ℕ) → Passes f bias n p choices m → Tags f bias n p choices m (loaded f m bias n p choices)
   tags choices c =
       let s = passes-stands f bias n p choices m c in
       record {
-        against-plain = record { plain = plainMemory; takes = plain-takes choices c (s .reading); agrees = agrees choices s };
+        against-plain = record { plain = plainMemory; takes = plain-takes choices c s; agrees = agrees choices s };
         matches = matching choices s;
         rechosen = rechoosing choices s c;
       }

@@ -9,12 +9,12 @@ use Rattle.rules.specs.Examine.{moduleOf}
 use Rattle.rules.specs.Load.{Loaded, loadOf, loaded}
 use Rattle.rules.specs.declared.Refusal.{Refusal}
 use Rattle.rules.specs.declared.Module.{Module}
-use Rattle.demands.proofs.Exactly.{exactly, taken-passes}
-use Rattle.demands.proofs.Reading.{exactly-read}
+use Rattle.demands.proofs.Exactly.{exactly-read, exactly-examined, exactly-loaded, same-facts, Passes, taken-passes}
 use Rattle.demands.proofs.Standing.{passes-stands, leaves}
 use Rattle.demands.proofs.Refusals.{examines, load-refusal, load-facts}
+use Rattle.demands.proofs.Guards.{idle}
 use Rattle.demands.proofs.Tags.{tags}
-use Rattle.demands.specs.Demands.{Passes, Leaves, Tags, Claim}
+use Rattle.demands.specs.Demands.{Leaves, Tags, Claim}
 
 -- an outcome is one of the two
 either-outcome : (o : Outcome Loaded) → ((l : Loaded) × (o ≡ good l)) ⊎ ((r : Refusal) × (o ≡ bad r))
@@ -41,8 +41,11 @@ demands f bias n p choices = record {
     memory-kept = λ r lent e. rw e;
     plane-kept = λ r lent e. rw e;
   };
-  exactly-read = exactly-read f;
-  exactly = exactly f bias n p choices;
+  reader = exactly-read f;
+  examine = exactly-examined f;
+  load = exactly-loaded f bias n p choices;
+  same-facts = same-facts f bias n p choices;
   leaves = of-taken f bias n p choices (Leaves f bias n p choices) (λ m c. leaves f bias n p choices m (passes-stands f bias n p choices m c));
   tags = of-taken f bias n p choices (Tags f bias n p choices) (λ m c. tags f bias n p m choices c);
+  guards-idle = idle f;
 }

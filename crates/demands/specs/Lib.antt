@@ -1,1 +1,6 @@
+pub mod Plain
+pub mod Table
+pub mod Steps
 pub mod Demands
+pub mod Calls
+pub mod Promises

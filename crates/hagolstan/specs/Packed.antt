@@ -1,12 +1,10 @@
 -- What the exported calls answer: one 64-bit number.
 -- Assumes nothing.
-use Prim.Native.Nat.{ℕ, _+_, _*_, _^_}
+use Prim.Native.Nat.{ℕ, _+_, _*_}
 use mathlib.Core.List.{List}
 use Rattle.rules.specs.Outcome.{Outcome, good, bad}
 use Rattle.rules.specs.Descriptors.{Read, finished, global}
 use Rattle.rules.specs.Memory.{putWord}
-use Rattle.rules.specs.declared.Global.{Global}
-use Rattle.rules.specs.declared.Cursor.{Cursor}
 use Rattle.rules.specs.declared.Refusal.{Refusal}
 use Rattle.rules.specs.declared.Facts.{Facts}
 use Rattle.rules.specs.declared.Mode.{Mode}

@@ -2,10 +2,10 @@
 ghost use mathlib.Core.Path.{_≡_};
 ghost use Prim.Native.Nat.{_≤_};
 ghost use Rattle.rules.specs.Examine.{examinedOf};
-ghost use lib.ListN.{length};
-ghost use Rattle.rules.specs.Load.{loadOf, memoryAfter, planeAfter};
 ghost use Rattle.rules.specs.Descriptors.{stepAt};
-ghost use Rattle.load.specs.Stages.{factsAfter};
+ghost use Rattle.demands.specs.Table.{positionLimit};
+ghost use Rattle.demands.specs.Calls.{buffers};
+ghost use Rattle.hagolstan.specs.Exported.{Exported};
 ghost use Rattle.hagolstan.specs.Packed.{packedRefusal, packed, modeNumber, switchNumber, factsNumber, packedFacts, stepNumber, stepWords};
 use rules::Answer;
 use rules::Cursor;
@@ -17,7 +17,7 @@ use rules::Switch;
 
 // A refusal as one number.
 fn pack_refusal(r: Refusal) -> u64
-    requires { ⌜ r .position ≤ 1024 ⌝ }
+    requires { ⌜ r .position ≤ positionLimit ⌝ }
     ensures { λ v. ⌜ v ≡ packedRefusal r ⌝ }
 {
     r.position * 256 + r.number as u64
@@ -93,9 +93,7 @@ pub extern "C" fn hagolstan_load(
     plane: &mut [u8],
     choices: &[u8],
 ) -> u64
-    ensures answered { λ v. ⌜ v ≡ packed (factsAfter (loadOf (now (file .entry)) bias (length (now (memory .entry))) (length (now (plane .entry))) (now (choices .entry)))) ⌝ }
-    ensures placed { λ _. ⌜ now (memory .exit) ≡ memoryAfter (loadOf (now (file .entry)) bias (length (now (memory .entry))) (length (now (plane .entry))) (now (choices .entry))) (now (memory .entry)) ⌝ }
-    ensures tagged { λ _. ⌜ now (plane .exit) ≡ planeAfter (loadOf (now (file .entry)) bias (length (now (memory .entry))) (length (now (plane .entry))) (now (choices .entry))) (now (plane .entry)) ⌝ }
+    ensures { λ v. ⌜ Exported (now (file .entry)) bias (now (choices .entry)) (buffers (now (memory .entry)) (now (plane .entry))) (buffers (now (memory .exit)) (now (plane .exit))) v ⌝ }
 {
     let answer = load::load_module(file, bias, memory, plane, choices);
     let Answer::Taken(a) = answer else {

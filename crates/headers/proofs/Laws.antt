@@ -1,7 +1,7 @@
 -- What follows from checks 1 to 4, and the walks over headers one turn at a time.
 -- Assumes nothing.
 use Prim.Native.Nat.{ℕ, zero, suc, _+_, _*_, _-_, _/_, _^_, _≤_, _<_}
-use mathlib.Core.Path.{_≡_, refl, sym, _∙_}
+use mathlib.Core.Path.{_≡_, refl}
 use mathlib.Core.Bool.{Bool, true, false, cond, not, _&&_, _||_}
 use mathlib.Core.List.{List}
 use native.Mathlib.Omega.{arith}
@@ -9,8 +9,8 @@ use native.Mathlib.Nat.{pow-suc, mul-div-cancel}
 use native.Mathlib.Numerals.{sub-one}
 use lib.ListN.{length}
 use lib.Dec.{leb, eqb}
-use borrow.Author.Tests.{leb-true, eqb-true}
-use Rattle.rules.specs.Outcome.{Outcome, good}
+use borrow.Author.Tests.{leb-true}
+use Rattle.rules.specs.Outcome.{good}
 use Rattle.rules.specs.Bytes.{le}
 use Rattle.rules.specs.Headers.{goodHeader, sizeCheck, headerCheck}
 use Rattle.rules.specs.Segments.{powerBelow, goodLoad, isLoad, covers, backs}

@@ -23,6 +23,7 @@ use Rattle.laws.proofs.Checks.{cond-case, and-false, faultless-all, som
 pub record Good (size last : ℕ) (s : Segment) : Type 0 where
   pub sized : s .filesz ≤ s .memsz
   pub in-file : s .offset + s .filesz ≤ size
+  pub in-limit : s .vaddr + s .memsz ≤ memoryLimit
   pub after : last ≤ s .vaddr
 
 goodLoad-facts : (size last : ℕ) (s : Segment) → goodLoad size last s ≡ true → Good size last s
@@ -35,6 +36,7 @@ goodLoad-facts size last s h =
     record {
       sized = leb-true _ _ (and-left (leb (s .filesz) (s .memsz)) _ a);
       in-file = leb-true _ _ (and-left (leb (s .offset + s .filesz) size) _ b);
+      in-limit = leb-true _ _ (and-left (leb (s .vaddr + s .memsz) memoryLimit) _ c);
       after = leb-true _ _ (and-left (leb last (s .vaddr)) _ d);
     }
 

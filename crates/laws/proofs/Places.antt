@@ -2,7 +2,7 @@
 -- Assumes nothing.
 use Prim.Native.Nat.{ℕ, _+_, _%_, _^_, _≤_, _<_}
 use mathlib.Core.Path.{_≡_}
-use mathlib.Core.Bool.{true, false, _&&_}
+use mathlib.Core.Bool.{true, false}
 use mathlib.Core.List.{List}
 use mathlib.Core.Logic.{_⊎_, inl, inr, ⊎-elim}
 use native.Mathlib.Omega.{arith}
@@ -11,7 +11,7 @@ use lib.IntN.{ℤ, pos, negsuc}
 use borrow.Author.Tests.{eqb-true, eqb-false, leb-false, not-true, not-false}
 use Rattle.rules.specs.Outcome.{good}
 use Rattle.rules.specs.Limits.{addressLimit}
-use Rattle.rules.specs.Segments.{loadsCheck, inMemory}
+use Rattle.rules.specs.Segments.{loadsCheck}
 use Rattle.rules.specs.Relocations.{placeAt, live, targetAt, barred, hasPlace, taken, placeFits, goodPlace, badRelocation, firstBad, relocationsIn, relocationsCheck}
 use Rattle.rules.specs.Dynamic.{entryOf}
 use Rattle.rules.specs.Load.{loadsEnd, outOfRange, natural, addressAt, badAddress, addressesCheck}

@@ -12,7 +12,8 @@ use Rattle.rules.specs.Descriptors.{globalsOf}
 use Rattle.rules.specs.Examine.{moduleOf, factsOf}
 use Rattle.rules.specs.First.{first, faultless}
 use Rattle.rules.specs.Dynamic.{entryOf}
-use Rattle.rules.specs.Load.{Loaded, loaded, loadedMemory, loadedPlane, imageOf, writes, loadOf, memoryFits, planeFits, loadsEnd, addressesCheck, globalsIn, badChoice, choicesCheck}
+use Rattle.rules.specs.Load.{loaded, loadedMemory, loadedPlane, imageOf, writes, loadOf}
+use Rattle.rules.specs.Load.{memoryFits, planeFits, loadsEnd, addressesCheck, globalsIn, badChoice, choicesCheck}
 use Rattle.rules.specs.Answers.{countOf}
 use Rattle.rules.specs.declared.Refusal.{Refusal}
 use Rattle.rules.specs.declared.Module.{Module}
@@ -23,7 +24,8 @@ use Rattle.rules.specs.declared.Counted.{Counted}
 use Rattle.rules.specs.declared.Chosen.{Chosen}
 use Rattle.rules.specs.declared.Facts.{Facts}
 use Rattle.rules.proofs.OutcomeLaws.{and-left, and-right, andThen-good, require-held}
-use Rattle.demands.specs.Demands.{Passes}
+use Rattle.demands.proofs.Exactly.{Passes}
+use Rattle.demands.specs.Calls.{Buffers, loadInto, Call}
 use Rattle.demands.proofs.Reading.{module-reads}
 use Rattle.demands.proofs.Standing.{passes-stands}
 use Rattle.laws.proofs.Writes.{Apart}
@@ -34,7 +36,7 @@ use Rattle.tags.proofs.Laws.{choices-from}
 use Rattle.relocations.specs.Addresses.{badAddressIn}
 use Rattle.placing.specs.Words.{wordIn}
 use Rattle.relocations.proofs.AddressLaws.{addresses-in}
-use Rattle.load.specs.Stages.{chosenIn, chosenOf, lentIn, checksIn, checkedIn, factsAfter}
+use Rattle.load.specs.Stages.{chosenIn, chosenOf, lentIn, checksIn, checkedIn}
 
 -- ---- reading
 
@@ -137,7 +139,7 @@ checks-then (good u) (bad r) c d x = refl
 checks-then (bad r) b c d x = refl
 
 module _ (f : List ℕ) (bias n p : ℕ) (choices : List ℕ) where
-  pub load-unread : (r : Refusal) → moduleOf f ≡ bad r → loadOf f bias n p choices ≡ bad r
+  load-unread : (r : Refusal) → moduleOf f ≡ bad r → loadOf f bias n p choices ≡ bad r
   unfolding loadOf
   load-unread r e = rw e
 
@@ -149,13 +151,14 @@ module _ (f : List ℕ) (bias n p : ℕ) (choices : List ℕ) where
       (require (memoryFits (loadsEnd f (m .headers)) n bias && planeFits n p) 12 0)
       (addressesCheck f (m .headers) (m .dynamic) (m .relocations) bias) (choicesCheck (globalsIn f m) choices) (good (loaded f m bias n p choices)))
 
-  pub load-refused : (m : Module) (r : Refusal) → moduleOf f ≡ good m → checksIn f m bias n p choices ≡ bad r → loadOf f bias n p choices ≡ bad r
+  load-refused : (m : Module) (r : Refusal) → moduleOf f ≡ good m → checksIn f m bias n p choices ≡ bad r → loadOf f bias n p choices ≡ bad r
   load-refused m r e c = load-staged m e ∙ rw c
 
-  pub load-taken : (m : Module) → moduleOf f ≡ good m → checksIn f m bias n p choices ≡ good tt → loadOf f bias n p choices ≡ good (loaded f m bias n p choices)
+  load-taken : (m : Module) → moduleOf f ≡ good m → checksIn f m bias n p choices ≡ good tt
+      → loadOf f bias n p choices ≡ good (loaded f m bias n p choices)
   load-taken m e c = load-staged m e ∙ rw c
 
-  pub checks-pass : (m : Module) → moduleOf f ≡ good m → checksIn f m bias n p choices ≡ good tt → Passes f bias n p choices m
+  checks-pass : (m : Module) → moduleOf f ≡ good m → checksIn f m bias n p choices ≡ good tt → Passes f bias n p choices m
   unfolding checksIn
   checks-pass m e c =
       let a = andThen-good (relocationsCheck f (m .headers) (m .dynamic) (m .relocations)) _ c in
@@ -170,6 +173,38 @@ module _ (f : List ℕ) (bias n p : ℕ) (choices : List ℕ) where
         addresses = d .here;
         chosen = d .rest;
       }
+
+-- ---- the call
+
+-- a call that is refused leaves the buffers as lent; one that is taken leaves the load's
+module _ (f : List ℕ) (bias : ℕ) (choices : List ℕ) (lent : Buffers) where
+  call-refused : (r : Refusal) → loadInto f bias choices lent ≡ bad r → Call f bias choices lent lent (bad r)
+  call-refused r e = record { answered = rw e; placed = rw e; tagged = rw e }
+
+  pub call-unread : (r : Refusal) → moduleOf f ≡ bad r → Call f bias choices lent lent (bad r)
+  call-unread r e = call-refused r (load-unread f bias (length (lent .memory)) (length (lent .plane)) choices r e)
+
+  module _ (m : Module) (e : moduleOf f ≡ good m) where
+    abbrev Checked : Outcome Facts
+    Checked = checkedIn f m bias (length (lent .memory)) (length (lent .plane)) choices
+
+    pub call-unfit : (r : Refusal) → Checked ≡ bad r → Call f bias choices lent lent (bad r)
+    call-unfit r k =
+        call-refused r (load-refused f bias (length (lent .memory)) (length (lent .plane)) choices m r e
+        (checked-bad f m bias (length (lent .memory)) (length (lent .plane)) choices r k))
+
+    pub call-passes : (a : Facts) → Checked ≡ good a → Passes f bias (length (lent .memory)) (length (lent .plane)) choices m
+    call-passes a k =
+        checks-pass f bias (length (lent .memory)) (length (lent .plane)) choices m e
+        (checked-good f m bias (length (lent .memory)) (length (lent .plane)) choices a k .0)
+
+    pub call-taken : (a : Facts) (left : Buffers) → Checked ≡ good a
+        → left .memory ≡ loaded f m bias (length (lent .memory)) (length (lent .plane)) choices .memory
+        → left .plane ≡ loaded f m bias (length (lent .memory)) (length (lent .plane)) choices .plane → Call f bias choices lent left (good a)
+    call-taken a left k placed tagged =
+        let g = checked-good f m bias (length (lent .memory)) (length (lent .plane)) choices a k in
+        let x = load-taken f bias (length (lent .memory)) (length (lent .plane)) choices m e (g .0) in
+        record { answered = rw (x, g .1); placed = rw x placed; tagged = rw x tagged }
 
 -- memory after the writes, from what each of them left
 pub memory-left : (f : List ℕ) (m : Module) (bias n p : ℕ) (choices : List ℕ) (symbols : Entry) (placed tagged after : List ℕ)
@@ -188,8 +223,3 @@ pub addresses-stand : (f : List ℕ) (m : Module) (bias n p : ℕ) (choices : Li
     → Passes f bias n p choices m → faultless 13 (badAddressIn f (m .headers) symbols (m .relocations) bias) (m .relocations .entries) ≡ good tt
 addresses-stand f m bias n p choices symbols e c =
     rw e (sym (addresses-in f (m .headers) (m .dynamic) (m .relocations) bias) ∙ c .addresses)
-
--- facts that are refused come from a load that is
-pub facts-refused : (o : Outcome Loaded) (r : Refusal) → factsAfter o ≡ bad r → o ≡ bad r
-facts-refused (good l) r e = absurd (let z : _≡_ {A = ℕ} 0 1 = cc in omega arith)
-facts-refused (bad q) r e = cc

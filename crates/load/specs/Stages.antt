@@ -1,13 +1,13 @@
--- The stages of a load: reading, checks 10 to 14, and the facts that it answers.
+-- The stages of a load: reading, and checks 10 to 14.
 -- Assumes nothing.
 use Prim.Native.Nat.{ℕ}
 use mathlib.Core.Bool.{_&&_}
 use mathlib.Core.List.{List}
-use Rattle.rules.specs.Outcome.{Outcome, good, bad, andThen, require}
+use Rattle.rules.specs.Outcome.{Outcome, good, andThen, require}
 use Rattle.rules.specs.First.{first, faultAt}
 use Rattle.rules.specs.Relocations.{relocationsCheck}
 use Rattle.rules.specs.Examine.{moduleOf, factsOf}
-use Rattle.rules.specs.Load.{Loaded, memoryFits, planeFits, loadsEnd, addressesCheck, globalsIn, badChoice, choicesCheck}
+use Rattle.rules.specs.Load.{memoryFits, planeFits, loadsEnd, addressesCheck, globalsIn, badChoice, choicesCheck}
 use Rattle.rules.specs.declared.Module.{Module}
 use Rattle.rules.specs.declared.Chosen.{Chosen}
 use Rattle.rules.specs.declared.Facts.{Facts}
@@ -39,8 +39,3 @@ checksIn f m bias n p choices =
 -- and the facts
 unfoldable pub checkedIn : List ℕ → Module → ℕ → ℕ → ℕ → List ℕ → Outcome Facts
 checkedIn f m bias n p choices = andThen (checksIn f m bias n p choices) (λ _. good (factsOf f m))
-
--- the facts of a load that is taken
-abbrev pub factsAfter : Outcome Loaded → Outcome Facts
-factsAfter (good l) = good (l .facts)
-factsAfter (bad r) = bad r

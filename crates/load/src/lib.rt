@@ -2,10 +2,11 @@
 ghost use mathlib.Core.Path.{_≡_};
 ghost use lib.ListN.{length};
 ghost use Rattle.rules.specs.Outcome.{good};
-ghost use Rattle.rules.specs.Load.{imageOf, loadedMemory, loadedPlane, loadOf, memoryAfter, planeAfter};
+ghost use Rattle.rules.specs.Load.{imageOf, loadedMemory, loadedPlane};
 ghost use Rattle.rules.specs.Answers.{ofChecked, ofChosen, ofAnswer};
-ghost use Rattle.demands.specs.Demands.{Passes};
-ghost use Rattle.load.specs.Stages.{chosenOf, lentIn, checkedIn, factsAfter};
+ghost use Rattle.demands.proofs.Exactly.{Passes};
+ghost use Rattle.demands.specs.Calls.{Call, buffers};
+ghost use Rattle.load.specs.Stages.{chosenOf, lentIn, checkedIn};
 use rules::Answer;
 use rules::Checked;
 use rules::Chosen;
@@ -132,9 +133,7 @@ pub fn load_module(
     plane: &mut [u8],
     choices: &[u8],
 ) -> Answer
-    ensures answered { λ v. ⌜ ofAnswer v ≡ factsAfter (loadOf (now (f .entry)) bias (length (now (memory .entry))) (length (now (plane .entry))) (now (choices .entry))) ⌝ }
-    ensures placed { λ _. ⌜ now (memory .exit) ≡ memoryAfter (loadOf (now (f .entry)) bias (length (now (memory .entry))) (length (now (plane .entry))) (now (choices .entry))) (now (memory .entry)) ⌝ }
-    ensures tagged { λ _. ⌜ now (plane .exit) ≡ planeAfter (loadOf (now (f .entry)) bias (length (now (memory .entry))) (length (now (plane .entry))) (now (choices .entry))) (now (plane .entry)) ⌝ }
+    ensures { λ v. ⌜ Call (now (f .entry)) bias (now (choices .entry)) (buffers (now (memory .entry)) (now (plane .entry))) (buffers (now (memory .exit)) (now (plane .exit))) (ofAnswer v) ⌝ }
 {
     let read = read_chosen(f, choices);
     let ChosenAnswer::Found(chosen) = read else {

@@ -1,23 +1,21 @@
 -- The word of one entry, by the symbol table's entry.
 -- Assumes nothing.
-use Prim.Native.Nat.{ℕ, _+_, _*_, _^_}
+use Prim.Native.Nat.{ℕ}
 use mathlib.Core.Bool.{cond}
 use mathlib.Core.List.{List}
 use lib.ListN.{length}
 use Rattle.rules.specs.Bytes.{le}
 use Rattle.rules.specs.Relocations.{placeAt, addendAt, live, targetIn}
 use Rattle.rules.specs.Memory.{putWord}
-use Rattle.rules.specs.Load.{natural, sourceTag}
+use Rattle.rules.specs.Load.{wordOf}
 use Rattle.rules.specs.declared.Headers.{Headers}
 use Rattle.rules.specs.declared.Entry.{Entry}
 use Rattle.rules.specs.declared.Relocations.{Relocations}
-use Rattle.relocations.specs.Addresses.{addressIn}
 
--- the word of the entry of index i: its address, and its tag in bits 56 to 59
+-- the word of the entry of index i
 unfoldable pub wordIn : List ℕ → Headers → Entry → Relocations → ℕ → List ℕ → List ℕ → ℕ → ℕ
 wordIn f h symbols r bias image plane i =
-    natural (addressIn f h symbols r bias i)
-    + 2 ^ 56 * sourceTag plane bias (length image) (targetIn f h symbols r i) (addendAt f r i) (le 8 image (placeAt f r i))
+    wordOf plane bias (length image) (targetIn f h symbols r i) (addendAt f r i) (le 8 image (placeAt f r i))
 
 -- a memory with that word at its place, unless the entry is skipped
 unfoldable pub written : List ℕ → Headers → Entry → Relocations → ℕ → List ℕ → List ℕ → ℕ → List ℕ

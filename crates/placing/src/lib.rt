@@ -1,13 +1,13 @@
 // Check 12, and the writes to memory: segments placed, words relocated.
 ghost use mathlib.Core.Path.{_≡_};
 ghost use mathlib.Core.Bool.{false, _&&_};
-ghost use Prim.Native.Nat.{_+_, _*_, _^_, _<_};
+ghost use Prim.Native.Nat.{_^_, _<_};
 ghost use lib.ListN.{length};
 ghost use Rattle.rules.specs.Outcome.{good, require};
 ghost use Rattle.rules.specs.First.{faultless};
 ghost use Rattle.rules.specs.Bytes.{le};
 ghost use Rattle.rules.specs.Memory.{putWord};
-ghost use Rattle.rules.specs.Load.{memoryFits, planeFits, loadsEnd, putLoad, imageOf, sourceTag, writes};
+ghost use Rattle.rules.specs.Load.{memoryFits, planeFits, loadsEnd, putLoad, imageOf, sourceTag, withTag, writes};
 ghost use Rattle.rules.specs.Answers.{ofChecked};
 ghost use Rattle.laws.proofs.Writes.{Apart};
 ghost use Rattle.relocations.specs.Addresses.{badAddressIn};
@@ -108,7 +108,7 @@ fn write_word(
     mem: &mut [u8],
 )
     requires { ⌜ address < 2 ^ 48 ⌝ }
-    ensures { λ _. ⌜ now (mem .exit) ≡ putWord (now (mem .entry)) place (address + 2 ^ 56 * sourceTag (now (plane .entry)) bias (length (now (mem .entry))) t addend (le 8 (now (mem .entry)) place)) ⌝ }
+    ensures { λ _. ⌜ now (mem .exit) ≡ putWord (now (mem .entry)) place (withTag address (sourceTag (now (plane .entry)) bias (length (now (mem .entry))) t addend (le 8 (now (mem .entry)) place))) ⌝ }
 {
     let loaded = reads::read64(mem, place);
     let tag = words::source_tag(plane, bias, mem.len() as u64, t, addend, loaded);

@@ -3,7 +3,7 @@ ghost use mathlib.Core.Path.{_≡_};
 ghost use mathlib.Core.Bool.{cond, _&&_, _||_};
 ghost use Prim.Native.Nat.{_≤_};
 ghost use lib.Dec.{eqb};
-ghost use Rattle.rules.specs.Relocations.{placeAt, kindAt, symbolAt, addendAt, live, symbolPlace, symbolOf, targetOf, namedTarget, target, targetIn, barred, placeFits};
+ghost use Rattle.rules.specs.Relocations.{abs64, globDat, placeAt, kindAt, symbolAt, addendAt, live, symbolPlace, symbolOf, targetOf, namedTarget, target, targetIn, barred, placeFits};
 ghost use Rattle.rules.specs.Load.{addressOf, outOfRange};
 ghost use Rattle.rules.specs.Outcome.{refuse};
 ghost use Rattle.rules.specs.Answers.{ofWalk};
@@ -137,7 +137,7 @@ fn named_target(f: &[u8], p: Place) -> Target
 
 // The kinds that have a symbol.
 fn is_symbolic(kind: u32) -> bool
-    ensures { λ v. ⌜ v ≡ (eqb kind 257 || eqb kind 1025) ⌝ }
+    ensures { λ v. ⌜ v ≡ (eqb kind abs64 || eqb kind globDat) ⌝ }
 {
     if kind == R_AARCH64_ABS64 {
         return true;

@@ -1,12 +1,12 @@
 -- The marked rows of the bench sheet, as one table under one claim.
 -- Assumes nothing.
-use Prim.Native.Nat.{ℕ, _+_, _*_, _-_, _/_, _^_}
+use Prim.Native.Nat.{ℕ, _-_, _/_, _^_}
 use mathlib.Core.List.{List, [], _∷_, map}
 use mathlib.Core.Path.{_≡_}
 use Rattle.rules.specs.Outcome.{Outcome, good, refuse}
 use Rattle.rules.specs.Limits.{granule}
 use Rattle.rules.specs.Descriptors.{Read, global, stepAt, tableStart}
-use Rattle.rules.specs.Load.{addressOf, natural, planeOf, sourceTag}
+use Rattle.rules.specs.Load.{planeOf, wordOf}
 use Rattle.rules.specs.declared.Cursor.{Cursor}
 use Rattle.rules.specs.declared.Global.{Global}
 use Rattle.rules.specs.declared.Target.the-variants.{Base}
@@ -77,11 +77,10 @@ rows =
     ∷ written 0x1020 0 0x0000000040001020
     ∷ []
 
--- what the definitions say of a case, with index 0 to report: the word is the address with its tag in bits 56 to 59
+-- what the definitions say of a case, with index 0 to report
 abbrev pub resultOf : Case → Result
 resultOf (read bytes from) = reads (stepAt 0 bytes from)
-resultOf (word addend loaded) =
-    writes (natural (addressOf bias Base addend) + 2 ^ 56 * sourceTag plane bias memory Base addend loaded)
+resultOf (word addend loaded) = writes (wordOf plane bias memory Base addend loaded)
 
 -- the claim: each row says what the definitions say of its case
 abbrev pub BenchHolds : Type 0

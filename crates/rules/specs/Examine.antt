@@ -1,7 +1,7 @@
 -- The reader as a whole (checks 1 to 9), and examine (checks 1 to 11 and the facts).
 -- Assumes nothing.
 use Prim.Native.Nat.{ℕ}
-use mathlib.Core.Bool.{Bool, cond}
+use mathlib.Core.Bool.{cond}
 use mathlib.Core.List.{List}
 use lib.ListN.{length}
 use lib.Dec.{eqb}

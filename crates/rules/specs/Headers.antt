@@ -8,7 +8,7 @@ use lib.Dec.{leb, eqb}
 use Rattle.rules.specs.Outcome.{Outcome, good, andThen, require}
 use Rattle.rules.specs.Limits.{fileLeast, fileLimit, headerLimit}
 use Rattle.rules.specs.Bytes.{le}
-use Rattle.rules.specs.First.{first, faultless}
+use Rattle.rules.specs.First.{faultless}
 use Rattle.rules.specs.declared.Headers.{Headers}
 
 -- check 1: a file of 64 to 1,048,576 bytes

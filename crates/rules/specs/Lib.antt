@@ -12,6 +12,5 @@ pub mod Examine
 pub mod Answers
 pub mod Memory
 pub mod Load
-pub mod Plain
 pub mod Numbers
 pub mod Bench

@@ -128,21 +128,42 @@ abbrev pub tagAddress : List ℕ → ℕ → ℕ → ℕ → ℕ
 tagAddress plane bias n source =
     cond (leb bias source && ltb source (bias + n)) (getD plane ((source - bias) / granule) 0) 0
 
--- the table of kinds, column Tag source: the tag that a word of an addend takes, over the loaded bytes
-abbrev pub sourceTag : List ℕ → ℕ → ℕ → Target → ℕ → ℕ → ℕ
-sourceTag plane bias n Base addend loaded = tagAddress plane bias n (mod64 (pos bias +ℤ signed addend +ℤ signed loaded))
-sourceTag plane bias n (Defined value) addend loaded = tagAddress plane bias n (bias + value)
-sourceTag plane bias n Undefined addend loaded = 0
-sourceTag plane bias n Barred addend loaded = 0
+-- where a word's tag comes from: a run-time address, or nowhere
+pub data Source : Type 0 where
+  none : Source
+  at : ℕ → Source
 
--- the word of the entry of index i: its address with its tag in bits 56 to 59
+-- the table of kinds, column Tag source; loaded is *P
+abbrev pub sourceOf : ℕ → Target → ℕ → ℕ → Source
+sourceOf bias Base addend loaded = at (mod64 (pos bias +ℤ signed addend +ℤ signed loaded))
+sourceOf bias (Defined value) addend loaded = at (bias + value)
+sourceOf bias Undefined addend loaded = none
+sourceOf bias Barred addend loaded = none
+
+-- the tag of a source
+abbrev pub tagOf : List ℕ → ℕ → ℕ → Source → ℕ
+tagOf plane bias n none = 0
+tagOf plane bias n (at s) = tagAddress plane bias n s
+
+abbrev pub sourceTag : List ℕ → ℕ → ℕ → Target → ℕ → ℕ → ℕ
+sourceTag plane bias n t addend loaded = tagOf plane bias n (sourceOf bias t addend loaded)
+
+-- an address with a tag in bits 56 to 59
+abbrev pub withTag : ℕ → ℕ → ℕ
+withTag address tag = address + 2 ^ 56 * tag
+
+-- the word: a target's address with the tag of its source, over the loaded bytes
+abbrev pub wordOf : List ℕ → ℕ → ℕ → Target → ℕ → ℕ → ℕ
+wordOf plane bias n t addend loaded = withTag (natural (addressOf bias t addend)) (sourceTag plane bias n t addend loaded)
+
+-- the tag and the word of the entry of index i; the loaded bytes are the image's, before any relocation
 abbrev pub tagOfEntry : List ℕ → Headers → Dynamic → Relocations → ℕ → List ℕ → List ℕ → ℕ → ℕ
 tagOfEntry f h d r bias image plane i =
     sourceTag plane bias (length image) (targetAt f h d r i) (addendAt f r i) (le 8 image (placeAt f r i))
 
 abbrev pub wordAt : List ℕ → Headers → Dynamic → Relocations → ℕ → List ℕ → List ℕ → ℕ → ℕ
 wordAt f h d r bias image plane i =
-    natural (addressAt f h d r bias i) + 2 ^ 56 * tagOfEntry f h d r bias image plane i
+    wordOf plane bias (length image) (targetAt f h d r i) (addendAt f r i) (le 8 image (placeAt f r i))
 
 -- memory after the first k entries, in table order: a word written at the place of each entry not skipped
 unfoldable pub writes : List ℕ → Relocations → (ℕ → ℕ) → List ℕ → ℕ → List ℕ
@@ -178,6 +199,11 @@ loadOf f bias n p choices =
     andThen (addressesCheck f (m .headers) (m .dynamic) (m .relocations) bias) (λ _.
     andThen (choicesCheck (globalsIn f m) choices) (λ _.
     good (loaded f m bias n p choices))))))
+
+-- the answer of the call: the facts of a load that is taken
+abbrev pub factsAfter : Outcome Loaded → Outcome Facts
+factsAfter (good l) = good (l .facts)
+factsAfter (bad r) = bad r
 
 -- memory and plane after the call: as lent where it is refused
 abbrev pub memoryAfter : Outcome Loaded → List ℕ → List ℕ

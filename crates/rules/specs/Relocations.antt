@@ -4,7 +4,7 @@ use Prim.Native.Nat.{ℕ, _+_, _*_, _/_, _%_}
 use mathlib.Core.Bool.{Bool, true, false, cond, not, _&&_, _||_}
 use mathlib.Core.List.{List}
 use lib.ListN.{getD}
-use lib.Dec.{ltb, leb, eqb}
+use lib.Dec.{leb, eqb}
 use Rattle.rules.specs.Outcome.{Outcome, good, refuse}
 use Rattle.rules.specs.Limits.{memoryLimit}
 use Rattle.rules.specs.Bytes.{le}
@@ -21,6 +21,16 @@ use Rattle.rules.specs.declared.Relocations.{Relocations}
 use Rattle.rules.specs.declared.Symbol.{Symbol}
 use Rattle.rules.specs.declared.Target.{Target}
 use Rattle.rules.specs.declared.Target.the-variants.{Base, Defined, Undefined, Barred}
+
+-- the kinds of AAELF64 that are allowed: ABS64, GLOB_DAT, RELATIVE
+abbrev pub abs64 : ℕ
+abs64 = 257
+
+abbrev pub globDat : ℕ
+globDat = 1025
+
+abbrev pub relative : ℕ
+relative = 1027
 
 -- an entry's place, kind, symbol and addend
 abbrev pub placeAt : List ℕ → Relocations → ℕ → ℕ
@@ -64,8 +74,8 @@ namedTarget f (place.At at) = targetOf (symbolOf f at)
 -- RELATIVE must have symbol 0, ABS64 and GLOB_DAT another; no other kind is allowed
 unfoldable pub target : List ℕ → Headers → Entry → ℕ → ℕ → Target
 target f h symbols kind symbol =
-    cond (eqb kind 1027) (cond (eqb symbol 0) Base Barred)
-    (cond (eqb kind 257 || eqb kind 1025)
+    cond (eqb kind relative) (cond (eqb symbol 0) Base Barred)
+    (cond (eqb kind abs64 || eqb kind globDat)
     (cond (eqb symbol 0) Barred (namedTarget f (symbolPlace f h symbol symbols)))
     Barred)
 

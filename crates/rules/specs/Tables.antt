@@ -1,7 +1,7 @@
 -- Check 7: the relocation and descriptor tables.
 -- Assumes nothing.
 use Prim.Native.Nat.{ℕ, _/_}
-use mathlib.Core.Bool.{Bool, cond}
+use mathlib.Core.Bool.{cond}
 use mathlib.Core.List.{List}
 use lib.Dec.{leb, eqb}
 use Rattle.rules.specs.Outcome.{Outcome, good, refuse, andThen, require}

@@ -75,10 +75,13 @@ wrap-twice b a p x y hb ha hp ex ey =
     let e : mod64 (pos b +ℤ signed a) ≡ x = mod-add (pos b) a ha ∙ rw q (sym ex) in
     ey ∙ sym (mod-add (pos b +ℤ signed a) p hp ∙ ap (λ (k : ℕ). (k + p) % 2 ^ 64) e)
 
--- the tag of a granule, by its distance from the first address
+-- the tag of a granule: 0 outside the n addresses from bias on, inside by the distance from bias
 module _ (plane : List ℕ) (bias n : ℕ) where
-  pub tag-below : (source : ℕ) → source < bias → 0 ≡ tagAddress plane bias n source
-  tag-below source h = rw (lt-leb bias source h)
+  pub tag-outside : (source : ℕ) → (bias ≤ source → bias + n ≤ source) → 0 ≡ tagAddress plane bias n source
+  tag-outside source h =
+      by-ltb (λ _. 0 ≡ tagAddress plane bias n source) source bias
+      (λ l. rw (lt-leb bias source l))
+      (λ l. rw (le-leb bias source l, le-ltb source (bias + n) (h l)))
 
   pub tag-distance : (source distance : ℕ) → source ≡ bias + distance
       → cond (ltb distance n) (getD plane (distance / granule) 0) 0 ≡ tagAddress plane bias n source

@@ -1,6 +1,6 @@
 -- The reader, then the walk, in their order; a refusal is passed up.
 -- Assumes nothing.
-use mathlib.Core.Path.{_≡_, sym, _∙_}
+use mathlib.Core.Path.{_≡_, sym}
 use Rattle.relocations.proofs.Laws.{walk-found, walk-refused}
 use Rattle.rules.specs.Outcome.{bad}
 use Rattle.rules.specs.Dynamic.{entryOf}

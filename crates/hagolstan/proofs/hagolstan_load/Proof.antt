@@ -1,25 +1,55 @@
--- The load's answer, packed; a refusal's position is at most 1,024.
+-- The answer of the load's call, packed; the position of a refusal is within bounds.
 -- Assumes nothing.
-use Rattle.demands.proofs.Refusals.{load-refusal}
-use Rattle.load.proofs.Laws.{facts-refused}
-use Rattle.load.specs.Stages.{factsAfter}
-use Rattle.rules.specs.Load.{loadOf}
+use Prim.Native.Nat.{ℕ}
+use mathlib.Core.Path.{_≡_, refl, sym, ap, _∙_}
+use native.Mathlib.Omega.{arith}
 use Rattle.rules.specs.Outcome.{bad}
-use lib.ListN.{length}
-use mathlib.Core.Path.{_≡_}
+use Rattle.rules.specs.Answers.{ofAnswer}
+use Rattle.rules.specs.declared.Refusal.{Refusal}
+use Rattle.rules.specs.declared.Answer.{Answer}
+use Rattle.rules.specs.declared.Answer.the-variants as answer
+use Rattle.demands.specs.Calls.{buffers}
+use Rattle.demands.proofs.Calls.{calls}
 use borrow.Author.Needs.{needs}
+use Rattle.hagolstan.specs.Packed.{packed}
 use Rattle.hagolstan.proofs.hagolstan_load.Statement.{statement}
 use Rattle.hagolstan.proofs.hagolstan_load.Tie as tie
 
+-- an answer is one of the two
+returns : tie.Need-returns
+returns c = absurd (let z : _≡_ {A = ℕ} 0 1 = cc in omega arith)
+
 pack-refusal-requires : tie.Need-pack-refusal-requires
-pack-refusal-requires c κs = let a = c .before .before .before .before .before .before .before .before .before .before .before .before .before .before .before .before .before .args in let r = c .before .answer3 .given .0 .0 in let o = loadOf (a .file .now) (a .bias) (length (a .memory .now)) (length (a .plane .now)) (a .choices .now) in let e : factsAfter (loadOf (a .file .now) (a .bias) (length (a .memory .now)) (length (a .plane .now)) (a .choices .now)) ≡ bad r = rw (← c .before .before .before .before .before .before .before .before .before .before .load-module .ensures .0, c .before .before .before .before .answer2 .given .1) (cc) in load-refusal (a .file .now) (a .bias) (length (a .memory .now)) (length (a .plane .now)) (a .choices .now) r (facts-refused o r e) .position-most
+pack-refusal-requires c κs =
+    let refused = c .before .before .before .before in
+    let call = refused .before .before .before .before .before .before in
+    let a = call .before .before .before .before .before .before .before .args in
+    let r = c .before .answer3 .given .0 .0 in
+    let e : ofAnswer (call .load-module .result) ≡ bad r = rw (refused .answer2 .given .1) (cc) in
+    calls (a .file .now) (a .bias) (a .choices .now) (buffers (a .memory .now) (a .plane .now)) _ _ (call .load-module .ensures)
+    .declined r e .numbered .position-most
+
+-- a refusal is told once
+refused-same : (v : Answer) (p q : Refusal) → v ≡ answer.Refused p → v ≡ answer.Refused q → p ≡ q
+refused-same v p q a b = cc
 
 returns-2 : tie.Need-returns-2
-returns-2 c = (rw (← c .before .before .before .before .before .before .before .before .before .before .before .load-module .ensures .0, c .before .before .before .before .before .answer2 .given .1) (cc), (c .before .before .before .before .before .before .before .before .before .before .before .load-module .ensures .1 .0, c .before .before .before .before .before .before .before .before .before .before .before .load-module .ensures .1 .1))
+returns-2 c =
+    let refused = c .before .before .before .before .before in
+    let call = refused .before .before .before .before .before .before in
+    let same = refused-same _ _ (refused .answer2 .given .0 .0) (c .before .before .answer3 .given .1) refl in
+    let e : ofAnswer (call .load-module .result) ≡ bad (c .before .before .answer3 .given .0 .0) =
+    rw (refused .answer2 .given .1) (ap bad (sym same)) in
+    record { answer = _; call = call .load-module .ensures; packs = c .pack-refusal .ensures ∙ sym (ap packed e) }
 
 returns-3 : tie.Need-returns-3
-returns-3 c = (rw (← c .before .before .before .before .before .before .before .before .load-module .ensures .0, c .before .before .answer .given .1), (c .before .before .before .before .before .before .before .before .load-module .ensures .1 .0, c .before .before .before .before .before .before .before .before .load-module .ensures .1 .1))
+returns-3 c =
+    let taken = c .before .before in
+    let call = taken .before .before .before .before .before .before in
+    record { answer = _; call = call .load-module .ensures; packs = rw (taken .answer .given .1) }
 
 pub hagolstan-load-spec : {M : Type 1} → statement M
 hagolstan-load-spec =
-    tie.close (tie.spec (search needs) (search needs) (search needs) (search needs) (search needs) (search needs) (search needs) (λ c. search needs) pack-refusal-requires (search needs) (search needs) returns-2 (search needs) (search needs) (search needs) (search needs) returns-3)
+    tie.close
+    (tie.spec (search needs) (search needs) (search needs) (search needs) (search needs) (search needs) (search needs) returns
+    pack-refusal-requires (search needs) (search needs) returns-2 (search needs) (search needs) (search needs) (search needs) returns-3)

@@ -5,7 +5,7 @@ use Rattle.rules.specs.Segments.{backsAt, backing, placeOf}
 use native.Mathlib.Nat.{sub-zero}
 use Rattle.rules.proofs.FirstLaws.{first-step, first-hit, first-none}
 use Rattle.rules.specs.First.{first}
-use mathlib.Core.Path.{_≡_, sym, _∙_}
+use mathlib.Core.Path.{_≡_, _∙_}
 use Prim.Native.Nat.{_≤_, _-_}
 use native.Mathlib.Omega.{arith}
 use borrow.Author.Needs.{needs}

@@ -4,14 +4,14 @@ use Prim.Native.Nat.{_-_}
 use mathlib.Core.Path.{_∙_}
 use native.Mathlib.Omega.{arith}
 use borrow.Author.Needs.{needs}
-use Rattle.words.proofs.Laws.{tag-below, tag-distance}
+use Rattle.words.proofs.Laws.{tag-outside, tag-distance}
 use Rattle.words.proofs.granule_tag.Statement.{statement}
 use Rattle.words.proofs.granule_tag.Tie as tie
 
 returns : tie.Need-returns
 returns c =
     let A = c .before .before .args in
-    tag-below (A .plane .now) (A .bias) (A .n) (A .source) (omega arith)
+    tag-outside (A .plane .now) (A .bias) (A .n) (A .source) (λ h. omega arith)
 
 returns-2 : tie.Need-returns-2
 returns-2 c =

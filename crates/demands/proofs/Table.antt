@@ -1,0 +1,395 @@
+-- Each check refuses as its row of the table says, and no other way.
+-- Assumes nothing.
+use Prim.Native.Nat.{ℕ, zero, suc, _+_, _*_, _-_, _/_, _%_, _≤_, _<_}
+use mathlib.Core.Path.{_≡_, refl, ap, _∙_}
+use mathlib.Core.Bool.{Bool, true, false, cond, not, _&&_}
+use mathlib.Core.List.{List, [], _∷_}
+use mathlib.Core.Logic.{_⊎_, inl, inr, ⊎-elim}
+use native.Mathlib.Nat.{sub-zero}
+use native.Mathlib.Numerals.{add-one}
+use native.Mathlib.Omega.{arith}
+use lib.ListN.{length}
+use lib.Dec.{leb, ltb, eqb}
+use borrow.Author.Tests.{leb-false, lt-leb, ltb-true, ltb-false, lt-ltb, le-ltb, eqb-true, eqb-false, eq-eqb, ne-eqb, not-true, not-false}
+use Rattle.rules.specs.Outcome.{Outcome, good, bad, refusal, andThen, require}
+use Rattle.rules.specs.Limits.{fileLeast, fileLimit, entryLimit, globalLimit, granule, addressLimit}
+use Rattle.rules.specs.First.{first, someBelow, faultless}
+use Rattle.rules.specs.Headers.{sizeCheck, wrongByte, identificationCheck, headerCheck}
+use Rattle.rules.specs.Segments.{badLoad, loadsCheck, inMemory}
+use Rattle.rules.specs.Dynamic.{isDynamicAt, dynamicFrom, firstDynamic, secondDynamic, goodSize, nullEntry, dynamicAt, dynamicOf}
+use Rattle.rules.specs.Dynamic.{knownTags, badEntry, partnerless, entriesCheck}
+use Rattle.rules.specs.Tables.{tablePlace, backed, relaAddress, relaBytes, descriptorAddress, descriptorBytes, relocationsOf, descriptorsOf}
+use Rattle.rules.specs.Descriptors.{Uleb, number, malformed, Read, finished, global, ulebAt, placed, second, descriptor, stepAt}
+use Rattle.rules.specs.Descriptors.{onGlobal, globalsFrom, globalsOf, descriptorTable, tableStart}
+use Rattle.rules.specs.Relocations.{targetIn, barred, badRelocation, firstBad, relocationsIn}
+use Rattle.rules.specs.Load.{badAddress, addressesCheck, badChoice, choicesCheck}
+use Rattle.rules.specs.declared.Refusal.{Refusal}
+use Rattle.rules.specs.declared.Headers.{Headers}
+use Rattle.rules.specs.declared.Dynamic.{Dynamic}
+use Rattle.rules.specs.declared.Place.{Place}
+use Rattle.rules.specs.declared.Place.the-variants.{At, Nowhere}
+use Rattle.rules.specs.declared.Relocations.{Relocations}
+use Rattle.rules.specs.declared.Entry.{Entry}
+use Rattle.rules.specs.declared.Descriptors.{Descriptors}
+use Rattle.rules.specs.declared.Global.{Global}
+use Rattle.rules.specs.declared.Cursor.{Cursor}
+use Rattle.rules.proofs.FirstLaws.{first-le}
+use Rattle.rules.proofs.OutcomeLaws.{require-held}
+use Rattle.laws.proofs.Checks.{andThen-bad, require-stopped, faultless-all, all-faultless, some-at, some-all}
+use Rattle.demands.proofs.Lowest.{not-both, cond-bad, lowest-first, first-lowest, clear-first, first-clear, faultless-lowest, lowest-faultless}
+use Rattle.demands.specs.Table.{Lowest, Reaches, fits, By, Refuses, Table}
+use Rattle.demands.specs.Table.{DynamicFault, no-dynamic, second-dynamic, bad-dynamic, EntryFault, bad-entry, no-partner, Unread}
+use Rattle.demands.specs.Table.{GlobalFault, ends-high, outside-loads, left-over, EntryAt, ChoiceFault, wrong-number, bad-choice}
+
+-- a test that holds somewhere holds at some index
+at-some : (t : ℕ → Bool) (n i : ℕ) → i < n → t i ≡ true → someBelow t n ≡ true
+at-some t n i l e = go (someBelow t n) refl
+  where
+    go : (b : Bool) → someBelow t n ≡ b → someBelow t n ≡ true
+    go true q = q
+    go false q = not-both (t i) e (some-all t n q i l)
+
+-- ---- check 1
+
+size-row : {r : Refusal} (f : List ℕ) → sizeCheck f ≡ bad r → ((length f < fileLeast) ⊎ (fileLimit < length f)) × (r ≡ refusal 1 0)
+unfolding sizeCheck
+size-row f e =
+    let s = require-stopped (leb fileLeast (length f) && leb (length f) fileLimit) 1 0 e in
+    (go (leb fileLeast (length f)) refl (s .0), s .1)
+  where
+    go : (b : Bool) → leb fileLeast (length f) ≡ b → (b && leb (length f) fileLimit) ≡ false → (length f < fileLeast) ⊎ (fileLimit < length f)
+    go true q t = inr (leb-false (length f) fileLimit t)
+    go false q t = inl (leb-false fileLeast (length f) q)
+
+row-size : (f : List ℕ) → (length f < fileLeast) ⊎ (fileLimit < length f) → sizeCheck f ≡ bad (refusal 1 0)
+unfolding sizeCheck
+row-size f (inl l) = rw (lt-leb fileLeast (length f) l)
+row-size f (inr l) = go (leb fileLeast (length f))
+  where
+    go : (b : Bool) → require (b && leb (length f) fileLimit) 1 0 ≡ bad (refusal 1 0)
+    go true = rw (lt-leb (length f) fileLimit l)
+    go false = refl
+
+-- ---- check 5
+
+dynamicAt-refusal : {r : Refusal} (f : List ℕ) (i size : ℕ) (p : Place) → dynamicAt f i size p ≡ bad r → r ≡ refusal 5 i
+unfolding dynamicAt
+dynamicAt-refusal f i size Nowhere e = cc
+dynamicAt-refusal f i size (At at) e =
+    cond-bad (goodSize size && ltb (nullEntry f at (size / 16)) (size / 16)) _ (refusal 5 i) e
+    (λ _ q. absurd (let z : _≡_ {A = ℕ} 0 1 = cc in omega arith)) (λ _ q. q)
+
+-- ---- check 7
+
+backed-row : {r : Refusal} (position : ℕ) (p : Place) → backed position p ≡ bad r → (p ≡ Nowhere) × (r ≡ refusal 7 position)
+backed-row position Nowhere e = (refl, cc)
+backed-row position (At at) e = absurd (let z : _≡_ {A = ℕ} 0 1 = cc in omega arith)
+
+relocations-row : {r : Refusal} (f : List ℕ) (h : Headers) (d : Dynamic) → relocationsOf f h d ≡ bad r
+    → ((tablePlace f h (relaAddress f d) (relaBytes f d) ≡ Nowhere) ⊎ (entryLimit < relaBytes f d / 24)) × (r ≡ refusal 7 0)
+unfolding relocationsOf
+relocations-row f h d e =
+    andThen-bad (backed 0 (tablePlace f h (relaAddress f d) (relaBytes f d))) _ e
+    (λ q. let b = backed-row 0 (tablePlace f h (relaAddress f d) (relaBytes f d)) q in (inl (b .0), b .1)) (λ _ _ q.
+    andThen-bad (require (leb (relaBytes f d / 24) entryLimit) 7 0) _ q
+    (λ q. let s = require-stopped (leb (relaBytes f d / 24) entryLimit) 7 0 q in (inr (leb-false (relaBytes f d / 24) entryLimit (s .0)), s .1))
+    (λ _ _ q. absurd (let z : _≡_ {A = ℕ} 0 1 = cc in omega arith)))
+
+row-relocations : (f : List ℕ) (h : Headers) (d : Dynamic)
+    → (tablePlace f h (relaAddress f d) (relaBytes f d) ≡ Nowhere) ⊎ (entryLimit < relaBytes f d / 24) → relocationsOf f h d ≡ bad (refusal 7 0)
+unfolding relocationsOf
+row-relocations f h d (inl e) = rw e
+row-relocations f h d (inr l) = go (tablePlace f h (relaAddress f d) (relaBytes f d))
+  where
+    go : (p : Place) → andThen {B = Relocations} (backed 0 p) (λ at. andThen (require (leb (relaBytes f d / 24) entryLimit) 7 0) (λ _.
+        good (record { at = at; entries = relaBytes f d / 24 }))) ≡ bad (refusal 7 0)
+    go Nowhere = refl
+    go (At at) = rw (lt-leb (relaBytes f d / 24) entryLimit l)
+
+descriptors-row : {r : Refusal} (f : List ℕ) (h : Headers) (d : Dynamic) → descriptorsOf f h d ≡ bad r
+    → (tablePlace f h (descriptorAddress f d) (descriptorBytes f d) ≡ Nowhere) × (r ≡ refusal 7 1)
+unfolding descriptorsOf
+descriptors-row f h d e =
+    andThen-bad (backed 1 (tablePlace f h (descriptorAddress f d) (descriptorBytes f d))) _ e
+    (backed-row 1 (tablePlace f h (descriptorAddress f d) (descriptorBytes f d)))
+    (λ _ _ q. absurd (let z : _≡_ {A = ℕ} 0 1 = cc in omega arith))
+
+row-descriptors : (f : List ℕ) (h : Headers) (d : Dynamic) → tablePlace f h (descriptorAddress f d) (descriptorBytes f d) ≡ Nowhere
+    → descriptorsOf f h d ≡ bad (refusal 7 1)
+unfolding descriptorsOf
+row-descriptors f h d e = rw e
+
+-- ---- checks 8 and 9
+
+-- reading one descriptor refuses with 8 or 9 at the index handed in
+abbrev pub EightOrNine : ℕ → Refusal → Type 0
+EightOrNine index r = (r ≡ refusal 8 index) ⊎ (r ≡ refusal 9 index)
+
+placed-refusal : {r : Refusal} (index end distance granules next : ℕ) → placed index end distance granules next ≡ bad r → EightOrNine index r
+unfolding placed
+placed-refusal index end distance granules next e =
+    cond-bad (leb (end + granule * distance + granule * granules) addressLimit) _ (refusal 9 index) e
+    (λ _ q. absurd (let z : _≡_ {A = ℕ} 0 1 = cc in omega arith)) (λ _ q. inr q)
+
+second-refusal : {r : Refusal} (index end distance : ℕ) (u : Uleb) → second index end distance u ≡ bad r → EightOrNine index r
+unfolding second
+second-refusal index end distance (number v next) e = placed-refusal index end distance (v + 1) next e
+second-refusal index end distance malformed e = inl (cc)
+
+descriptor-refusal : {r : Refusal} (index : ℕ) (s : List ℕ) (end : ℕ) (u : Uleb) → descriptor index s end u ≡ bad r → EightOrNine index r
+unfolding descriptor
+descriptor-refusal {r} index s end (number v next) e = go (eqb (v % 8) 0) e
+  where
+    go : (b : Bool) → cond b (second index end (v / 8) (ulebAt s next)) (placed index end (v / 8) (v % 8) next) ≡ bad r → EightOrNine index r
+    go true q = second-refusal index end (v / 8) (ulebAt s next) q
+    go false q = placed-refusal index end (v / 8) (v % 8) next q
+descriptor-refusal index s end malformed e = inl (cc)
+
+pub step-refusal : {r : Refusal} (index : ℕ) (s : List ℕ) (c : Cursor) → stepAt index s c ≡ bad r → EightOrNine index r
+unfolding stepAt
+step-refusal {r} index s c e =
+    cond-bad (leb (c .position) (length s)) _ (refusal 8 index) e (λ _ e.
+    cond-bad (eqb (c .end % granule) 0) _ (refusal 9 index) e (λ _ e.
+    cond-bad (leb (c .end) addressLimit) _ (refusal 9 index) e (λ _ e. go (ltb (c .position) (length s)) e)
+    (λ _ q. inr q)) (λ _ q. inr q)) (λ _ q. inl q)
+  where
+    go : (b : Bool) → cond b (descriptor index s (c .end) (ulebAt s (c .position))) (good finished) ≡ bad r → EightOrNine index r
+    go true q = descriptor-refusal index s (c .end) (ulebAt s (c .position)) q
+    go false q = absurd (let z : _≡_ {A = ℕ} 0 1 = cc in omega arith)
+
+-- ---- the rows
+
+-- checks with one test, or with a fault by index
+require-refuses : {P : Type 0} (b : Bool) (code position : ℕ) → (b ≡ false → P) → (P → b ≡ false)
+    → Refuses (require b code position) (By code (λ i. (i ≡ position) × P))
+require-refuses b code position to from = record {
+  says = λ r e. let s = require-stopped b code position e in (position, (s .1, (refl, to (s .0))));
+  when = λ r w. let q = w .1 .0 in let z = w .1 .1 .0 in rw (from (w .1 .1 .1), q, z);
+}
+
+faultless-refuses : (code n : ℕ) (fault : ℕ → Bool) → Refuses (faultless code fault n) (By code (Lowest fault 0 n))
+faultless-refuses code n fault = record {
+  says = λ r e. let l = faultless-lowest fault code n e in (l .0, (l .1 .1, l .1 .0));
+  when = λ r w. lowest-faultless fault code n (w .0) (w .1 .1) ∙ rw (w .1 .0);
+}
+
+module _ (f : List ℕ) where
+  dynamic-says : (h : Headers) (r : Refusal) → dynamicOf f h ≡ bad r → By 5 (DynamicFault f h) r
+  unfolding dynamicOf dynamicFrom
+  dynamic-says h r e =
+      andThen-bad (require (ltb (firstDynamic f h) (h .count)) 5 (h .count)) _ e
+      (λ q.
+      let s = require-stopped (ltb (firstDynamic f h) (h .count)) 5 (h .count) q in
+      let l = ltb-false (firstDynamic f h) (h .count) (s .0) in
+      (h .count, (s .1, no-dynamic (first-clear (isDynamicAt f h) 0 (h .count) (h .count) (omega arith) l) refl)))
+      (λ _ a q.
+      let u = ltb-true (firstDynamic f h) (h .count) (require-held _ 5 (h .count) a) in
+      let low = first-lowest (isDynamicAt f h) 0 (h .count) (h .count) (omega arith) u in
+      let k = h .count - (firstDynamic f h + 1) in
+      andThen-bad (require (not (ltb (secondDynamic f h) (h .count))) 5 (secondDynamic f h)) _ q
+      (λ q.
+      let s = require-stopped (not (ltb (secondDynamic f h) (h .count))) 5 (secondDynamic f h) q in
+      let v = ltb-true (secondDynamic f h) (h .count) (not-false _ (s .0)) in (
+        secondDynamic f h,
+        (
+          s .1,
+          second-dynamic (firstDynamic f h) low
+              (first-lowest (isDynamicAt f h) (firstDynamic f h + 1) k (h .count) (omega arith) v),
+        ),
+      ))
+      (λ _ b q.
+      let v = ltb-false (secondDynamic f h) (h .count) (not-true (ltb (secondDynamic f h) (h .count)) (require-held _ 5 (secondDynamic f h) b)) in
+      let z = dynamicAt-refusal f (firstDynamic f h) _ _ q in (
+        firstDynamic f h,
+        (
+          z,
+          bad-dynamic low
+              (first-clear (isDynamicAt f h) (firstDynamic f h + 1) k (h .count) (omega arith) v) (q ∙ ap (λ (r : Refusal). bad r) z),
+        ),
+      )))
+
+  dynamic-when : (h : Headers) (i : ℕ) → DynamicFault f h i → dynamicOf f h ≡ bad (refusal 5 i)
+  unfolding dynamicOf dynamicFrom
+  dynamic-when h i (no-dynamic c q) =
+      let s = clear-first (isDynamicAt f h) 0 (h .count) (h .count) (omega arith) c in
+      rw (s, le-ltb (h .count) (h .count) (omega arith), q)
+  dynamic-when h i (second-dynamic j l k) =
+      let u = l .below in
+      let a = lowest-first (isDynamicAt f h) 0 (h .count) (h .count) (omega arith) j l in
+      let b = lowest-first (isDynamicAt f h) (j + 1) (h .count - (j + 1)) (h .count) (omega arith) i k in
+      rw (a, lt-ltb j (h .count) u, b, lt-ltb i (h .count) (k .below))
+  dynamic-when h i (bad-dynamic l k e) =
+      let u = l .below in
+      let a = lowest-first (isDynamicAt f h) 0 (h .count) (h .count) (omega arith) i l in
+      let b = clear-first (isDynamicAt f h) (i + 1) (h .count - (i + 1)) (h .count) (omega arith) k in
+      rw (a, lt-ltb i (h .count) u, b, le-ltb (h .count) (h .count) (omega arith), e)
+
+  entries-says : (d : Dynamic) (r : Refusal) → entriesCheck knownTags f d ≡ bad r → By 6 (EntryFault f d) r
+  unfolding entriesCheck
+  entries-says d r e =
+      andThen-bad (faultless 6 (badEntry knownTags f d) (d .entries)) _ e
+      (λ q. let l = faultless-lowest (badEntry knownTags f d) 6 (d .entries) q in (l .0, (l .1 .1, bad-entry (l .1 .0))))
+      (λ _ a q.
+      let s = require-stopped (not (someBelow (partnerless knownTags f d) (length knownTags))) 6 (d .entries) q in
+      let k = some-at (partnerless knownTags f d) (length knownTags) (not-false _ (s .0)) in
+      (d .entries, (s .1, no-partner (k .0) (λ i u v. faultless-all (badEntry knownTags f d) 6 (d .entries) a i v) (k .1 .0) (k .1 .1) refl)))
+
+  entries-when : (d : Dynamic) (i : ℕ) → EntryFault f d i → entriesCheck knownTags f d ≡ bad (refusal 6 i)
+  unfolding entriesCheck
+  entries-when d i (bad-entry l) = let s = lowest-faultless (badEntry knownTags f d) 6 (d .entries) i l in rw s
+  entries-when d i (no-partner k c l e q) =
+      let a = all-faultless (badEntry knownTags f d) 6 (d .entries) (λ i u. c i (omega arith) u) in
+      let b = at-some (partnerless knownTags f d) (length knownTags) k l e in
+      rw (a, b, q)
+
+  module _ (h : Headers) (t : Descriptors) where
+    abbrev Faulty : Refusal → Type 0
+    Faulty r = By 8 (Unread f h (descriptorTable f t) 8) r ⊎ By 9 (GlobalFault f h (descriptorTable f t)) r
+
+    walk-says : {r : Refusal} (k i : ℕ) (c : Cursor) → i + k ≡ globalLimit → Reaches f h (descriptorTable f t) i c
+        → globalsFrom f h (descriptorTable f t) k i c ≡ bad r → Faulty r
+    unfolding globalsFrom
+    walk-says {r} zero i c l w e = go (ltb (c .position) (length (descriptorTable f t))) refl e
+      where
+        go : (b : Bool) → ltb (c .position) (length (descriptorTable f t)) ≡ b
+            → cond {A = Outcome (List Global)} b (bad (refusal 9 i)) (good []) ≡ bad r → Faulty r
+        go true q x = inr (i, (cc, left-over c (omega arith) w (ltb-true _ _ q)))
+        go false q x = absurd (let z : _≡_ {A = ℕ} 0 1 = cc in omega arith)
+    walk-says {r} (suc k) i c l w e =
+        andThen-bad (stepAt i (descriptorTable f t) c) _ e
+        (λ q. ⊎-elim
+        (λ (x : r ≡ refusal 8 i). inl (i, (x, unread 8 x q)))
+        (λ (x : r ≡ refusal 9 i). inr (i, (x, ends-high (unread 9 x q))))
+        (step-refusal i (descriptorTable f t) c q))
+        (λ x q s. go x q s (walk-says k (i + 1)))
+      where
+        unread : (code : ℕ) → r ≡ refusal code i → stepAt i (descriptorTable f t) c ≡ bad r → Unread f h (descriptorTable f t) code i
+        unread code x q = record { cursor = c; counted = omega arith; reached = w; refused = q ∙ ap (λ (r : Refusal). bad r) x }
+
+        go : (x : Read) → stepAt i (descriptorTable f t) c ≡ good x
+            → onGlobal x (λ g₁ next. cond (inMemory f h false (g₁ .start) (granule * g₁ .granules))
+            (andThen (globalsFrom f h (descriptorTable f t) k (i + 1) next) (λ gs. good (g₁ ∷ gs))) (bad (refusal 9 i))) ≡ bad r
+            → ((c : Cursor) → i + 1 + k ≡ globalLimit → Reaches f h (descriptorTable f t) (i + 1) c
+            → globalsFrom f h (descriptorTable f t) k (i + 1) c ≡ bad r → Faulty r)
+            → Faulty r
+        go finished q s again = absurd (let z : _≡_ {A = ℕ} 0 1 = cc in omega arith)
+        go (global x next) q s again =
+            cond-bad (inMemory f h false (x .start) (granule * x .granules)) _ (refusal 9 i) s
+            (λ a s.
+            andThen-bad (globalsFrom f h (descriptorTable f t) k (i + 1) next) _ s
+            (again next (omega arith) (rw add-one (record { cursor = c; before = w; read = x; reads = q; inside = a })))
+            (λ _ _ s. absurd (let z : _≡_ {A = ℕ} 0 1 = cc in omega arith)))
+            (λ a s. inr (i, (s, outside-loads c next x (omega arith) w q a)))
+
+    -- a walk that comes to an index and is refused there is refused
+    reached : {r : Refusal} (total i : ℕ) (c : Cursor) → i ≤ total → Reaches f h (descriptorTable f t) i c
+        → globalsFrom f h (descriptorTable f t) (total - i) i c ≡ bad r → globalsFrom f h (descriptorTable f t) total 0 tableStart ≡ bad r
+    unfolding globalsFrom
+    reached total zero c l w e = rw (← w) (rw sub-zero at e)
+    reached {r} total (suc i) c l w e =
+        let k : total - i ≡ suc (total - suc i) = omega arith in
+        reached total i (w .cursor) (omega arith) (w .before) (rw (k, w .reads, w .inside, add-one, e))
+
+    unread-when : (code i : ℕ) → Unread f h (descriptorTable f t) code i → globalsOf f h t ≡ bad (refusal code i)
+    unfolding globalsOf globalsFrom
+    unread-when code i u =
+        let l = u .counted in
+        let k : globalLimit - i ≡ suc (globalLimit - suc i) = omega arith in
+        reached globalLimit i (u .cursor) (omega arith) (u .reached) (rw (k, u .refused))
+
+    fault-when : (i : ℕ) → GlobalFault f h (descriptorTable f t) i → globalsOf f h t ≡ bad (refusal 9 i)
+    unfolding globalsOf globalsFrom
+    fault-when i (ends-high u) = unread-when 9 i u
+    fault-when i (outside-loads c next x l w e o) =
+        let k : globalLimit - i ≡ suc (globalLimit - suc i) = omega arith in
+        reached globalLimit i c (omega arith) w (rw (k, e, o))
+    fault-when i (left-over c l w o) = let k : globalLimit - i ≡ 0 = omega arith in reached globalLimit i c (omega arith) w (rw (k, lt-ltb _ _ o))
+
+    walk-refuses : Refuses (globalsOf f h t) Faulty
+    unfolding globalsOf
+    walk-refuses = record {
+      says = λ r e. walk-says globalLimit 0 tableStart (omega arith) refl e;
+      when = λ r w. ⊎-elim
+          (λ (u : By 8 (Unread f h (descriptorTable f t) 8) r). unread-when 8 (u .0) (u .1 .1) ∙ rw (u .1 .0))
+          (λ (u : By 9 (GlobalFault f h (descriptorTable f t)) r). fault-when (u .0) (u .1 .1) ∙ rw (u .1 .0)) w;
+    }
+
+  module _ (h : Headers) (symbols : Entry) (t : Relocations) where
+    abbrev Barred : Refusal → Type 0
+    Barred r = By 10 (EntryAt f h symbols t true) r ⊎ By 11 (EntryAt f h symbols t false) r
+
+    entry-says : (r : Refusal) → relocationsIn f h symbols t ≡ bad r → Barred r
+    unfolding relocationsIn firstBad
+    entry-says r e =
+        cond-bad (eqb (first (badRelocation f h symbols t) 0 (t .entries)) (t .entries)) _ _ e
+        (λ _ q. absurd (let z : _≡_ {A = ℕ} 0 1 = cc in omega arith))
+        (λ a q.
+        let ne = eqb-false (first (badRelocation f h symbols t) 0 (t .entries)) (t .entries) a in
+        let l = first-le (badRelocation f h symbols t) (t .entries) 0 in
+        let i = first (badRelocation f h symbols t) 0 (t .entries) in
+        go (first (badRelocation f h symbols t) 0 (t .entries))
+        (first-lowest (badRelocation f h symbols t) 0 (t .entries) (t .entries) (omega arith) (omega arith))
+        (barred (targetIn f h symbols t (first (badRelocation f h symbols t) 0 (t .entries)))) refl q)
+      where
+        go : (i : ℕ) → Lowest (badRelocation f h symbols t) 0 (t .entries) i → (b : Bool) → barred (targetIn f h symbols t i) ≡ b
+            → r ≡ refusal (cond b 10 11) i → Barred r
+        go i l true x q = inl (i, (q, record { first = l; by-kind = x }))
+        go i l false x q = inr (i, (q, record { first = l; by-kind = x }))
+
+    entry-when : (kind : Bool) (i : ℕ) → EntryAt f h symbols t kind i → relocationsIn f h symbols t ≡ bad (refusal (cond kind 10 11) i)
+    unfolding relocationsIn firstBad
+    entry-when kind i u =
+        let l = u .first .below in
+        let a = lowest-first (badRelocation f h symbols t) 0 (t .entries) (t .entries) (omega arith) i (u .first) in
+        rw (a, ne-eqb i (t .entries) (λ z. omega arith), u .by-kind)
+
+    entry-refuses : Refuses (relocationsIn f h symbols t) Barred
+    entry-refuses = record {
+      says = entry-says;
+      when = λ r w. ⊎-elim
+          (λ (u : By 10 (EntryAt f h symbols t true) r). entry-when true (u .0) (u .1 .1) ∙ rw (u .1 .0))
+          (λ (u : By 11 (EntryAt f h symbols t false) r). entry-when false (u .0) (u .1 .1) ∙ rw (u .1 .0)) w;
+    }
+
+choices-says : (gs : List Global) (choices : List ℕ) (r : Refusal) → choicesCheck gs choices ≡ bad r → By 14 (ChoiceFault gs choices) r
+unfolding choicesCheck
+choices-says gs choices r e =
+    andThen-bad (require (eqb (length choices) (length gs)) 14 (length gs)) _ e
+    (λ q.
+    let s = require-stopped (eqb (length choices) (length gs)) 14 (length gs) q in
+    (length gs, (s .1, wrong-number (eqb-false (length choices) (length gs) (s .0)) refl)))
+    (λ _ c q.
+    let l = faultless-lowest (badChoice gs choices) 14 (length gs) q in
+    (l .0, (l .1 .1, bad-choice (eqb-true _ _ (require-held _ 14 (length gs) c)) (l .1 .0))))
+
+choices-when : (gs : List Global) (choices : List ℕ) (i : ℕ) → ChoiceFault gs choices i → choicesCheck gs choices ≡ bad (refusal 14 i)
+unfolding choicesCheck
+choices-when gs choices i (wrong-number e q) = rw (ne-eqb (length choices) (length gs) e, q)
+choices-when gs choices i (bad-choice e l) = let s = lowest-faultless (badChoice gs choices) 14 (length gs) i l in rw (eq-eqb (length choices) (length gs) e, s)
+
+pub table : (f : List ℕ) → Table f
+unfolding identificationCheck headerCheck loadsCheck addressesCheck
+table f = record {
+  row-1 = record {
+    says = λ r e. let s = size-row f e in (0, (s .1, (refl, s .0)));
+    when = λ r w. row-size f (w .1 .1 .1) ∙ rw (w .1 .0, w .1 .1 .0);
+  };
+  row-2 = faultless-refuses 2 7 (wrongByte f);
+  row-3 = require-refuses _ 3 0 (λ e. e) (λ e. e);
+  row-4 = λ h. faultless-refuses 4 (h .count) (badLoad f h);
+  row-5 = λ h. record { says = dynamic-says f h; when = λ r w. dynamic-when f h (w .0) (w .1 .1) ∙ rw (w .1 .0) };
+  row-6 = λ d. record { says = entries-says f d; when = λ r w. entries-when f d (w .0) (w .1 .1) ∙ rw (w .1 .0) };
+  row-7 = λ h d. record {
+    says = λ r e. let s = relocations-row f h d e in (0, (s .1, (refl, s .0)));
+    when = λ r w. row-relocations f h d (w .1 .1 .1) ∙ rw (w .1 .0, w .1 .1 .0);
+  };
+  row-7-descriptors = λ h d. record {
+    says = λ r e. let s = descriptors-row f h d e in (1, (s .1, (refl, s .0)));
+    when = λ r w. row-descriptors f h d (w .1 .1 .1) ∙ rw (w .1 .0, w .1 .1 .0);
+  };
+  row-8-9 = walk-refuses f;
+  row-10-11 = entry-refuses f;
+  row-12 = λ h bias n p. require-refuses (fits f h bias n p) 12 0 (λ e. e) (λ e. e);
+  row-13 = λ h d t bias. faultless-refuses 13 (t .entries) (badAddress f h d t bias);
+  row-14 = λ gs choices. record { says = choices-says gs choices; when = λ r w. choices-when gs choices (w .0) (w .1 .1) ∙ rw (w .1 .0) };
+}

@@ -1,0 +1,85 @@
+-- The plain loader, a definition of its own: AAELF64's base operations, no tags. It is fed the file, the bias and the memory
+-- length. It shares with the load the reading of the file and the tests that both owe, and nothing that the load works out.
+-- Assumes nothing.
+use Prim.Native.Nat.{ℕ, zero, suc, _+_, _*_, _^_}
+use mathlib.Core.Bool.{Bool, true, cond, not, _&&_}
+use mathlib.Core.List.{List, _++_}
+use lib.ListN.{length, take, drop, replicate}
+use lib.Dec.{ltb, eqb}
+use lib.IntN.{ℤ, pos, negsuc, _+ℤ_, natAbs}
+use Rattle.rules.specs.Outcome.{Outcome, good, andThen, require}
+use Rattle.rules.specs.Bytes.{le, part}
+use Rattle.rules.specs.First.{faultless}
+use Rattle.rules.specs.Memory.{bytesOf, signed}
+use Rattle.rules.specs.Headers.{headersOf}
+use Rattle.rules.specs.Segments.{headerAt, isLoad, loadsCheck, placeOf}
+use Rattle.rules.specs.Dynamic.{dynamicOf, baseTags, entriesCheck, entryOf}
+use Rattle.rules.specs.Tables.{relocationsOf}
+use Rattle.rules.specs.Relocations.{relative, placeAt, kindAt, symbolAt, addendAt, relocationsCheck}
+use Rattle.rules.specs.Load.{memoryFits, loadsEnd}
+use Rattle.rules.specs.declared.Headers.{Headers}
+use Rattle.rules.specs.declared.Segment.{Segment}
+use Rattle.rules.specs.declared.Place.{Place}
+use Rattle.rules.specs.declared.Place.the-variants.{At, Nowhere}
+use Rattle.rules.specs.declared.Dynamic.{Dynamic}
+use Rattle.rules.specs.declared.Entry.{Entry}
+use Rattle.rules.specs.declared.Entry.the-variants.{Absent, Value}
+use Rattle.rules.specs.declared.Relocations.{Relocations}
+
+-- m with the bytes s from a place on, and no other byte changed
+abbrev pub store : List ℕ → ℕ → List ℕ → List ℕ
+store m at s = take at m ++ (s ++ drop (at + length s) m)
+
+-- its memory starts as zeros, and each PT_LOAD's filesz bytes at offset are put from vaddr onward
+abbrev pub storeLoad : List ℕ → Segment → List ℕ → List ℕ
+storeLoad f s m = cond (isLoad s) (store m (s .vaddr) (part f (s .offset) (s .filesz))) m
+
+unfoldable pub segmentsOf : List ℕ → Headers → ℕ → ℕ → List ℕ
+segmentsOf f h n zero = replicate n 0
+segmentsOf f h n (suc k) = storeLoad f (headerAt f h k) (segmentsOf f h n k)
+
+-- where the 24 bytes of symbol n stand in the file, by the entry of tag 6
+abbrev pub symbolEntry : List ℕ → Headers → Entry → ℕ → Place
+symbolEntry f h Absent n = Nowhere
+symbolEntry f h (Value table) n = placeOf f h (table + 24 * n) 24
+
+-- S: bias + value; 0 where the symbol's section is 0
+abbrev pub symbolAddress : List ℕ → ℕ → Place → ℕ
+symbolAddress f bias Nowhere = 0
+symbolAddress f bias (At at) = cond (eqb (le 2 f (at + 6)) 0) 0 (bias + le 8 f (at + 8))
+
+-- the base operations: RELATIVE is Delta(S) + A, and Delta(S) is the bias; ABS64 and GLOB_DAT are S + A
+abbrev pub operation : ℕ → ℕ → ℕ → ℤ → ℤ
+operation kind bias s a = cond (eqb kind relative) (pos bias) (pos s) +ℤ a
+
+abbrev pub bareAddress : List ℕ → Headers → Dynamic → Relocations → ℕ → ℕ → ℤ
+bareAddress f h d r bias i =
+    operation (kindAt f r i) bias (symbolAddress f bias (symbolEntry f h (entryOf f d 6) (symbolAt f r i))) (signed (addendAt f r i))
+
+-- check 13: below 0, or not below 2^48
+abbrev pub offRange : ℤ → Bool
+offRange (pos x) = not (ltb x (2 ^ 48))
+offRange (negsuc x) = true
+
+unfoldable pub badBare : List ℕ → Headers → Dynamic → Relocations → ℕ → ℕ → Bool
+badBare f h d r bias i = not (eqb (kindAt f r i) 0) && offRange (bareAddress f h d r bias i)
+
+-- the relocations in table order: kind 0 is skipped, any other writes its bare address as eight bytes at its place
+unfoldable pub bareWords : List ℕ → Headers → Dynamic → Relocations → ℕ → List ℕ → ℕ → List ℕ
+bareWords f h d r bias m zero = m
+bareWords f h d r bias m (suc k) =
+    cond (eqb (kindAt f r k) 0) (bareWords f h d r bias m k)
+    (store (bareWords f h d r bias m k) (placeAt f r k) (bytesOf 8 (natAbs (bareAddress f h d r bias k))))
+
+-- checks 1 to 7 and 10 to 13, where the five memtag tags are unknown; then segments and words
+unfoldable pub plainOf : List ℕ → ℕ → ℕ → Outcome (List ℕ)
+plainOf f bias n =
+    andThen (headersOf f) (λ h.
+    andThen (loadsCheck f h) (λ _.
+    andThen (dynamicOf f h) (λ d.
+    andThen (entriesCheck baseTags f d) (λ _.
+    andThen (relocationsOf f h d) (λ r.
+    andThen (relocationsCheck f h d r) (λ _.
+    andThen (require (memoryFits (loadsEnd f h) n bias) 12 0) (λ _.
+    andThen (faultless 13 (badBare f h d r bias) (r .entries)) (λ _.
+    good (bareWords f h d r bias (segmentsOf f h n (h .count)) (r .entries))))))))))

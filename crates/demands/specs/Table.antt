@@ -1,0 +1,226 @@
+-- The checks as one list in their order, and document 01's table of refusals, a row a number.
+-- Assumes nothing.
+use Prim.Native.Nat.{ℕ, zero, suc, _+_, _*_, _/_, _≤_, _<_}
+use mathlib.Core.Path.{_≡_}
+use mathlib.Core.Bool.{Bool, true, false, _&&_, _||_}
+use mathlib.Core.List.{List, [], _∷_, _++_}
+use mathlib.Core.Logic.{_⊎_}
+use lib.ListN.{length}
+use lib.Dec.{eqb}
+use Rattle.rules.specs.Outcome.{Outcome, good, bad, refusal, andThen, require}
+use Rattle.rules.specs.Limits.{fileLeast, fileLimit, entryLimit, globalLimit, granule}
+use Rattle.rules.specs.Bytes.{le}
+use Rattle.rules.specs.Headers.{sizeCheck, wrongByte, identificationCheck, goodHeader, headerCheck}
+use Rattle.rules.specs.Segments.{headerAt, badLoad, loadsCheck, inMemory}
+use Rattle.rules.specs.Dynamic.{isDynamicAt, dynamicIn, dynamicOf, knownTags, badEntry, partnerless, entriesCheck}
+use Rattle.rules.specs.Tables.{tablePlace, relaAddress, relaBytes, descriptorAddress, descriptorBytes, relocationsOf, descriptorsOf}
+use Rattle.rules.specs.Descriptors.{global, stepAt, tableStart, descriptorTable, globalsOf}
+use Rattle.rules.specs.Relocations.{targetIn, barred, badRelocation, relocationsIn, relocationsCheck}
+use Rattle.rules.specs.Load.{memoryFits, planeFits, loadsEnd, badAddress, addressesCheck, badChoice, choicesCheck}
+use Rattle.rules.specs.declared.Refusal.{Refusal}
+use Rattle.rules.specs.declared.Headers.{Headers}
+use Rattle.rules.specs.declared.Dynamic.{Dynamic}
+use Rattle.rules.specs.declared.Entry.{Entry}
+use Rattle.rules.specs.declared.Place.the-variants.{Nowhere}
+use Rattle.rules.specs.declared.Relocations.{Relocations}
+use Rattle.rules.specs.declared.Descriptors.{Descriptors}
+use Rattle.rules.specs.declared.Global.{Global}
+use Rattle.rules.specs.declared.Cursor.{Cursor}
+use Rattle.rules.specs.declared.Module.{Module}
+
+-- ---- checks in a row: the first that does not pass is answered
+
+abbrev pub runs : List (Outcome (Unit {0})) → Outcome (Unit {0})
+runs [] = good tt
+runs (c ∷ cs) = andThen c (λ _. runs cs)
+
+-- every check passes
+abbrev pub All : List (Outcome (Unit {0})) → Type 0
+All [] = Unit
+All (c ∷ cs) = (c ≡ good tt) × All cs
+
+-- r is the refusal of the first that does not pass
+abbrev pub First : List (Outcome (Unit {0})) → Refusal → Type 0
+First [] r = ⊥
+First (c ∷ cs) r = (c ≡ bad r) ⊎ ((c ≡ good tt) × First cs r)
+
+-- ---- the checks of the three calls
+
+-- a check that finds something, and what it finds; what stands behind a refusal is never reached
+abbrev pub passed : {A : Type 0} → Outcome A → Outcome (Unit {0})
+passed (good a) = good tt
+passed (bad r) = bad r
+
+abbrev pub found : {A : Type 0} → A → Outcome A → A
+found other (good a) = a
+found other (bad r) = other
+
+abbrev pub theHeaders : List ℕ → Headers
+theHeaders f = record { table = le 8 f 32; count = le 2 f 56 }
+
+abbrev pub theDynamic : List ℕ → Dynamic
+theDynamic f = found (record { at = 0; entries = 0 }) (dynamicOf f (theHeaders f))
+
+abbrev pub theRelocations : List ℕ → Relocations
+theRelocations f = found (record { at = 0; entries = 0 }) (relocationsOf f (theHeaders f) (theDynamic f))
+
+abbrev pub theDescriptors : List ℕ → Descriptors
+theDescriptors f = found (record { at = 0; bytes = 0 }) (descriptorsOf f (theHeaders f) (theDynamic f))
+
+abbrev pub theGlobals : List ℕ → List Global
+theGlobals f = found [] (globalsOf f (theHeaders f) (theDescriptors f))
+
+abbrev pub theModule : List ℕ → Module
+theModule f = record {
+  headers = theHeaders f;
+  dynamic = theDynamic f;
+  relocations = theRelocations f;
+  descriptors = theDescriptors f;
+  globals = length (theGlobals f);
+}
+
+-- 1 to 9
+abbrev pub readerChecks : List ℕ → List (Outcome (Unit {0}))
+readerChecks f =
+    sizeCheck f
+    ∷ identificationCheck f
+    ∷ headerCheck f
+    ∷ loadsCheck f (theHeaders f)
+    ∷ passed (dynamicOf f (theHeaders f))
+    ∷ entriesCheck knownTags f (theDynamic f)
+    ∷ passed (relocationsOf f (theHeaders f) (theDynamic f))
+    ∷ passed (descriptorsOf f (theHeaders f) (theDynamic f))
+    ∷ passed (globalsOf f (theHeaders f) (theDescriptors f))
+    ∷ []
+
+-- 1 to 11
+abbrev pub examineChecks : List ℕ → List (Outcome (Unit {0}))
+examineChecks f = readerChecks f ++ (relocationsCheck f (theHeaders f) (theDynamic f) (theRelocations f) ∷ [])
+
+abbrev pub fits : List ℕ → Headers → ℕ → ℕ → ℕ → Bool
+fits f h bias n p = memoryFits (loadsEnd f h) n bias && planeFits n p
+
+-- 12 to 14
+abbrev pub lentChecks : List ℕ → ℕ → ℕ → ℕ → List ℕ → List (Outcome (Unit {0}))
+lentChecks f bias n p choices =
+    require (fits f (theHeaders f) bias n p) 12 0
+    ∷ addressesCheck f (theHeaders f) (theDynamic f) (theRelocations f) bias
+    ∷ choicesCheck (theGlobals f) choices
+    ∷ []
+
+-- 1 to 14
+abbrev pub loadChecks : List ℕ → ℕ → ℕ → ℕ → List ℕ → List (Outcome (Unit {0}))
+loadChecks f bias n p choices = examineChecks f ++ lentChecks f bias n p choices
+
+-- ---- the numbers of each call; they need not be an interval
+
+abbrev pub readerNumbers : List ℕ
+readerNumbers = 1 ∷ 2 ∷ 3 ∷ 4 ∷ 5 ∷ 6 ∷ 7 ∷ 8 ∷ 9 ∷ []
+
+abbrev pub examineNumbers : List ℕ
+examineNumbers = readerNumbers ++ (10 ∷ 11 ∷ [])
+
+abbrev pub loadNumbers : List ℕ
+loadNumbers = examineNumbers ++ (12 ∷ 13 ∷ 14 ∷ [])
+
+-- the largest position: bytes left after so many descriptors
+abbrev pub positionLimit : ℕ
+positionLimit = globalLimit
+
+abbrev pub listed : List ℕ → ℕ → Bool
+listed [] number = false
+listed (x ∷ xs) number = eqb x number || listed xs number
+
+-- ---- the fault with the lowest index
+
+-- no fault from a on, before b
+abbrev pub Clear : (ℕ → Bool) → ℕ → ℕ → Type 0
+Clear fault a b = (i : ℕ) → a ≤ i → i < b → fault i ≡ false
+
+-- i is the lowest index with a fault from a on, before b
+pub record Lowest (fault : ℕ → Bool) (a b i : ℕ) : Type 0 where
+  pub from : a ≤ i
+  pub below : i < b
+  pub faulty : fault i ≡ true
+  pub lowest : Clear fault a i
+
+-- the walk over the descriptors comes to index i with a cursor: each before it reads, and lies inside a PT_LOAD
+pub record Turned (Before : Cursor → Type 0) (f : List ℕ) (h : Headers) (s : List ℕ) (i : ℕ) (c : Cursor) : Type 0 where
+  pub cursor : Cursor
+  pub before : Before cursor
+  pub read : Global
+  pub reads : stepAt i s cursor ≡ good (global read c)
+  pub inside : inMemory f h false (read .start) (granule * read .granules) ≡ true
+
+abbrev pub Reaches : List ℕ → Headers → List ℕ → ℕ → Cursor → Type 0
+Reaches f h s zero c = c ≡ tableStart
+Reaches f h s (suc i) c = Turned (Reaches f h s i) f h s i c
+
+-- ---- the table: with which number and at which position a check refuses
+
+-- no PT_DYNAMIC; else the second one; else a bad one
+pub data DynamicFault (f : List ℕ) (h : Headers) (i : ℕ) : Type 0 where
+  no-dynamic : Clear (isDynamicAt f h) 0 (h .count) → i ≡ h .count → DynamicFault f h i
+  second-dynamic : (j : ℕ) → Lowest (isDynamicAt f h) 0 (h .count) j → Lowest (isDynamicAt f h) (j + 1) (h .count) i → DynamicFault f h i
+  bad-dynamic : Lowest (isDynamicAt f h) 0 (h .count) i → Clear (isDynamicAt f h) (i + 1) (h .count)
+      → dynamicIn f h i (headerAt f h i) ≡ bad (refusal 5 i) → DynamicFault f h i
+
+-- the first entry that is bad or repeated; then a partner missing
+pub data EntryFault (f : List ℕ) (d : Dynamic) (i : ℕ) : Type 0 where
+  bad-entry : Lowest (badEntry knownTags f d) 0 (d .entries) i → EntryFault f d i
+  no-partner : (k : ℕ) → Clear (badEntry knownTags f d) 0 (d .entries) → k < length knownTags → partnerless knownTags f d k ≡ true
+      → i ≡ d .entries → EntryFault f d i
+
+-- the first descriptor that does not read
+pub record Unread (f : List ℕ) (h : Headers) (s : List ℕ) (number i : ℕ) : Type 0 where
+  pub cursor : Cursor
+  pub counted : i < globalLimit
+  pub reached : Reaches f h s i cursor
+  pub refused : stepAt i s cursor ≡ bad (refusal number i)
+
+-- or that ends too high, or whose global is outside every PT_LOAD; then bytes left over
+pub data GlobalFault (f : List ℕ) (h : Headers) (s : List ℕ) (i : ℕ) : Type 0 where
+  ends-high : Unread f h s 9 i → GlobalFault f h s i
+  outside-loads : (c next : Cursor) (g : Global) → i < globalLimit → Reaches f h s i c → stepAt i s c ≡ good (global g next)
+      → inMemory f h false (g .start) (granule * g .granules) ≡ false → GlobalFault f h s i
+  left-over : (c : Cursor) → i ≡ globalLimit → Reaches f h s i c → c .position < length s → GlobalFault f h s i
+
+-- the first entry with a fault: its kind or symbol; else its place
+pub record EntryAt (f : List ℕ) (h : Headers) (symbols : Entry) (r : Relocations) (kind : Bool) (i : ℕ) : Type 0 where
+  pub first : Lowest (badRelocation f h symbols r) 0 (r .entries) i
+  pub by-kind : barred (targetIn f h symbols r i) ≡ kind
+
+-- a wrong number of choices; else the first bad choice
+pub data ChoiceFault (gs : List Global) (choices : List ℕ) (i : ℕ) : Type 0 where
+  wrong-number : (length choices ≡ length gs → ⊥) → i ≡ length gs → ChoiceFault gs choices i
+  bad-choice : length choices ≡ length gs → Lowest (badChoice gs choices) 0 (length gs) i → ChoiceFault gs choices i
+
+-- a refusal with a number, at a position
+abbrev pub By : ℕ → (ℕ → Type 0) → Refusal → Type 0
+By number At r = (i : ℕ) × ((r ≡ refusal number i) × At i)
+
+-- a check refuses so, and no other way
+pub record Refuses {A : Type 0} (c : Outcome A) (Says : Refusal → Type 0) : Type 0 where
+  pub says : (r : Refusal) → c ≡ bad r → Says r
+  pub when : (r : Refusal) → Says r → c ≡ bad r
+
+pub record Table (f : List ℕ) : Type 0 where
+  pub row-1 : Refuses (sizeCheck f) (By 1 (λ i. (i ≡ 0) × ((length f < fileLeast) ⊎ (fileLimit < length f))))
+  pub row-2 : Refuses (identificationCheck f) (By 2 (Lowest (wrongByte f) 0 7))
+  pub row-3 : Refuses (headerCheck f) (By 3 (λ i. (i ≡ 0)
+      × (goodHeader (length f) (le 2 f 16) (le 2 f 18) (le 4 f 20) (le 2 f 54) (le 2 f 56) (le 8 f 32) ≡ false)))
+  pub row-4 : (h : Headers) → Refuses (loadsCheck f h) (By 4 (Lowest (badLoad f h) 0 (h .count)))
+  pub row-5 : (h : Headers) → Refuses (dynamicOf f h) (By 5 (DynamicFault f h))
+  pub row-6 : (d : Dynamic) → Refuses (entriesCheck knownTags f d) (By 6 (EntryFault f d))
+  pub row-7 : (h : Headers) (d : Dynamic) → Refuses (relocationsOf f h d) (By 7 (λ i. (i ≡ 0)
+      × ((tablePlace f h (relaAddress f d) (relaBytes f d) ≡ Nowhere) ⊎ (entryLimit < relaBytes f d / 24))))
+  pub row-7-descriptors : (h : Headers) (d : Dynamic) → Refuses (descriptorsOf f h d) (By 7 (λ i. (i ≡ 1)
+      × (tablePlace f h (descriptorAddress f d) (descriptorBytes f d) ≡ Nowhere)))
+  pub row-8-9 : (h : Headers) (t : Descriptors) → Refuses (globalsOf f h t)
+      (λ r. By 8 (Unread f h (descriptorTable f t) 8) r ⊎ By 9 (GlobalFault f h (descriptorTable f t)) r)
+  pub row-10-11 : (h : Headers) (symbols : Entry) (t : Relocations) → Refuses (relocationsIn f h symbols t)
+      (λ r. By 10 (EntryAt f h symbols t true) r ⊎ By 11 (EntryAt f h symbols t false) r)
+  pub row-12 : (h : Headers) (bias n p : ℕ) → Refuses (require (fits f h bias n p) 12 0) (By 12 (λ i. (i ≡ 0) × (fits f h bias n p ≡ false)))
+  pub row-13 : (h : Headers) (d : Dynamic) (t : Relocations) (bias : ℕ)
+      → Refuses (addressesCheck f h d t bias) (By 13 (Lowest (badAddress f h d t bias) 0 (t .entries)))
+  pub row-14 : (gs : List Global) (choices : List ℕ) → Refuses (choicesCheck gs choices) (By 14 (ChoiceFault gs choices))
