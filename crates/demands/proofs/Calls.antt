@@ -1,23 +1,18 @@
 -- A call's answer and bytes are the load's by the rules, so the demands hold of them.
 -- Assumes nothing.
 use Prim.Native.Nat.{ℕ}
-use mathlib.Core.Path.{_≡_, refl, _∙_, subst}
+use mathlib.Core.Path.{_≡_, _∙_, subst}
 use mathlib.Core.List.{List}
-use mathlib.Core.Logic.{_⊎_, inl, inr}
 use lib.ListN.{length}
 use Rattle.rules.specs.Outcome.{Outcome, good, bad}
 use Rattle.rules.specs.Load.{Loaded, factsAfter, memoryAfter, planeAfter}
 use Rattle.rules.specs.declared.Refusal.{Refusal}
 use Rattle.rules.specs.declared.Facts.{Facts}
+use Rattle.laws.proofs.Checks.{either}
 use Rattle.demands.proofs.Exactly.{taken-passes}
 use Rattle.demands.proofs.Theorem.{demands}
 use Rattle.demands.specs.Demands.{Rechosen}
 use Rattle.demands.specs.Calls.{Buffers, loadInto, Call, leftBy, resultOf, Declined, Accepted, CallClaim}
-
--- an answer is one of the two
-either-answer : (o : Outcome Facts) → ((a : Facts) × (o ≡ good a)) ⊎ ((r : Refusal) × (o ≡ bad r))
-either-answer (good a) = inl (a, refl)
-either-answer (bad r) = inr (r, refl)
 
 -- what a call answers and leaves is the load by the rules
 pub call-result : (f : List ℕ) (bias : ℕ) (choices : List ℕ) (lent left : Buffers) (answer : Outcome Facts) → Call f bias choices lent left answer
@@ -64,7 +59,7 @@ pub calls : CallClaim
 calls f bias choices lent left answer c =
     let D = demands f bias (length (lent .memory)) (length (lent .plane)) choices in
     record {
-      either = either-answer answer;
+      either = either answer;
       declined = declined f bias choices lent left answer c;
       declined-if = λ r s. let q = D .load .refused-if r s in c .answered ∙ rw q;
       accepted = accepted f bias choices lent left answer c;

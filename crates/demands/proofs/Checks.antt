@@ -5,7 +5,7 @@ use mathlib.Core.Path.{_≡_, refl, sym, _∙_}
 use mathlib.Core.List.{List, [], _∷_, _++_}
 use mathlib.Core.Logic.{inl, inr}
 use native.Mathlib.Omega.{arith}
-use Rattle.rules.specs.Outcome.{Outcome, good, bad, andThen, require}
+use Rattle.rules.specs.Outcome.{Outcome, good, bad, andThen, found, require}
 use Rattle.rules.specs.Headers.{sizeCheck, identificationCheck, headerCheck, headersOf}
 use Rattle.rules.specs.Segments.{loadsCheck}
 use Rattle.rules.specs.Dynamic.{dynamicOf, knownTags, entriesCheck}
@@ -13,12 +13,11 @@ use Rattle.rules.specs.Tables.{relocationsOf, descriptorsOf}
 use Rattle.rules.specs.Descriptors.{globalsOf}
 use Rattle.rules.specs.Relocations.{relocationsCheck}
 use Rattle.rules.specs.Examine.{moduleOf, factsOf, examinedOf}
-use Rattle.rules.specs.Load.{loadOf, loaded, addressesCheck, choicesCheck, globalsIn, listOf}
+use Rattle.rules.specs.Load.{loadOf, loaded, addressesCheck, choicesCheck}
 use Rattle.rules.specs.declared.Refusal.{Refusal}
 use Rattle.rules.specs.declared.Headers.{Headers}
-use Rattle.rules.specs.declared.Global.{Global}
 use Rattle.rules.specs.declared.Module.{Module}
-use Rattle.demands.specs.Table.{runs, All, First, passed, found, theHeaders, theDynamic, theRelocations, theDescriptors, theGlobals, theModule}
+use Rattle.demands.specs.Table.{runs, All, First, passed, theHeaders, theDynamic, theRelocations, theDescriptors, theGlobals, theModule}
 use Rattle.demands.specs.Table.{readerChecks, examineChecks, fits, loadChecks}
 
 -- ---- of any list of checks
@@ -104,19 +103,12 @@ pub examined-runs : (f : List ℕ) → examinedOf f ≡ andThen (runs (examineCh
 unfolding examinedOf
 examined-runs f = goes-on f _ _ _ (test (relocationsCheck f (theHeaders f) (theDynamic f) (theRelocations f)) _ done)
 
--- the globals found are those of the module
-pub globals-found : (o : Outcome (List Global)) → listOf o ≡ found [] o
-globals-found (good gs) = refl
-globals-found (bad r) = refl
-
 pub load-runs : (f : List ℕ) (bias n p : ℕ) (choices : List ℕ)
     → loadOf f bias n p choices ≡ andThen (runs (loadChecks f bias n p choices)) (λ _. good (loaded f (theModule f) bias n p choices))
 unfolding loadOf
 load-runs f bias n p choices =
-    let last : Runs (andThen (choicesCheck (globalsIn f (theModule f)) choices) (λ _. good (loaded f (theModule f) bias n p choices)))
-    (choicesCheck (theGlobals f) choices ∷ []) (good (loaded f (theModule f) bias n p choices)) =
-    rw (← globals-found (globalsOf f (theHeaders f) (theDescriptors f))) (test (choicesCheck (globalsIn f (theModule f)) choices) _ done) in
     goes-on f _ _ (good (loaded f (theModule f) bias n p choices))
     (test (relocationsCheck f (theHeaders f) (theDynamic f) (theRelocations f)) _
     (test (require (fits f (theHeaders f) bias n p) 12 0) _
-    (test (addressesCheck f (theHeaders f) (theDynamic f) (theRelocations f) bias) _ last)))
+    (test (addressesCheck f (theHeaders f) (theDynamic f) (theRelocations f) bias) _
+    (test (choicesCheck (theGlobals f) choices) _ done))))

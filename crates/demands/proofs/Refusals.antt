@@ -1,15 +1,15 @@
 -- Every refusal has a number of its call and a position within bounds, and the facts' counts are within theirs.
 -- Assumes nothing.
 use Prim.Native.Nat.{ℕ, _/_, _%_, _≤_}
-use mathlib.Core.Path.{_≡_, refl, sym, subst}
+use mathlib.Core.Path.{_≡_, refl, sym, ap, _∙_, subst}
 use mathlib.Core.Bool.{Bool, true, false, not, _&&_, _||_}
 use mathlib.Core.List.{List, [], _∷_, _++_}
 use mathlib.Core.Logic.{_⊎_, inl, inr, ⊎-elim}
 use native.Mathlib.Omega.{arith}
 use lib.ListN.{length}
 use lib.Dec.{leb, ltb, eqb}
-use borrow.Author.Tests.{leb-true, ltb-true}
-use Rattle.rules.specs.Outcome.{Outcome, good, bad, require}
+use borrow.Author.Tests.{leb-true, ltb-true, eqb-true}
+use Rattle.rules.specs.Outcome.{Outcome, good, bad, refusal, found, require}
 use Rattle.rules.specs.Limits.{entryLimit, globalLimit, headerLimit, dynamicLimit}
 use Rattle.rules.specs.Bytes.{le}
 use Rattle.rules.specs.First.{first}
@@ -38,11 +38,10 @@ use Rattle.laws.proofs.Checks.{good-same}
 use Rattle.demands.proofs.Reading.{module-reads}
 use Rattle.laws.proofs.Globals.{globals-count}
 use Rattle.demands.proofs.Exactly.{exactly-read, exactly-examined, exactly-loaded, taken-passes}
-use Rattle.demands.proofs.Checks.{globals-found}
 use Rattle.demands.proofs.Table.{table}
-use Rattle.demands.specs.Table.{All, First, passed, found, theHeaders, theDynamic, theRelocations, theDescriptors, theGlobals, theModule}
+use Rattle.demands.specs.Table.{All, First, passed, theHeaders, theDynamic, theRelocations, theDescriptors, theGlobals, theModule}
 use Rattle.demands.specs.Table.{readerNumbers, examineNumbers, loadNumbers, listed, positionLimit}
-use Rattle.demands.specs.Table.{readerChecks, examineChecks, lentChecks, loadChecks, Lowest, Unread, EntryAt, By, Refuses}
+use Rattle.demands.specs.Table.{readerChecks, examineChecks, lentChecks, loadChecks, Lowest, Unread, EntryAt, Row}
 use Rattle.demands.specs.Table.{DynamicFault, no-dynamic, second-dynamic, bad-dynamic, EntryFault, bad-entry, no-partner}
 use Rattle.demands.specs.Table.{GlobalFault, ends-high, outside-loads, left-over, ChoiceFault, wrong-number, bad-choice}
 use Rattle.demands.specs.Demands.{Numbered, Counted, Examines}
@@ -105,18 +104,40 @@ passed-found P other (bad r) e h = absurd (let z : _≡_ {A = ℕ} 0 1 = cc in o
 abbrev Bounded : (ℕ → Type 0) → Type 0
 Bounded P = (i : ℕ) → P i → i ≤ positionLimit
 
-module _ (numbers : List ℕ) where
-  by-numbered : {At : ℕ → Type 0} {r : Refusal} (code : ℕ) → listed numbers code ≡ true → Bounded At → By code At r → Numbered numbers r
-  by-numbered code l most w = record { number-listed = rw (w .1 .0) l; position-most = rw (w .1 .0) (most (w .0) (w .1 .1)) }
+-- a number of a list of one or two
+pub listed-one : (code x : ℕ) → listed (code ∷ []) x ≡ true → x ≡ code
+listed-one code x h = go (eqb code x) refl h
+  where
+    go : (b : Bool) → eqb code x ≡ b → (b || false) ≡ true → x ≡ code
+    go true q h = sym (eqb-true code x q)
+    go false q h = absurd (let z : _≡_ {A = ℕ} 0 1 = cc in omega arith)
 
-  row : {A : Type 0} {At : ℕ → Type 0} {c : Outcome A} (code : ℕ) → listed numbers code ≡ true → Bounded At
-      → Refuses c (By code At) → Within numbers c
-  row code l most t = record { within = λ r e. by-numbered code l most (t .says r e) }
+listed-two : (one two x : ℕ) → listed (one ∷ two ∷ []) x ≡ true → (x ≡ one) ⊎ (x ≡ two)
+listed-two one two x h = go (eqb one x) refl h
+  where
+    go : (b : Bool) → eqb one x ≡ b → (b || listed (two ∷ []) x) ≡ true → (x ≡ one) ⊎ (x ≡ two)
+    go true q h = inl (sym (eqb-true one x q))
+    go false q h = inr (listed-one two x h)
+
+module _ (numbers : List ℕ) where
+  at-row : {A : Type 0} {gives : List ℕ} {P : ℕ → Type 0} {c : Outcome A} (code : ℕ) → listed numbers code ≡ true → Bounded P
+      → Row c gives code P → (r : Refusal) → c ≡ bad r → r .number ≡ code → Numbered numbers r
+  at-row code l most t r e q = record {
+    number-listed = rw q l;
+    position-most = most (r .position) (t .says (r .position) (e ∙ ap (λ (n : ℕ). bad (refusal n (r .position))) q));
+  }
+
+  row : {A : Type 0} {P : ℕ → Type 0} {c : Outcome A} (code : ℕ) → listed numbers code ≡ true → Bounded P
+      → Row c (code ∷ []) code P → Within numbers c
+  row code l most t = record { within = λ r e. at-row code l most t r e (listed-one code (r .number) (t .only r e)) }
 
   rows : {A : Type 0} {P Q : ℕ → Type 0} {c : Outcome A} (one two : ℕ) → listed numbers one ≡ true → listed numbers two ≡ true
-      → Bounded P → Bounded Q → Refuses c (λ r. By one P r ⊎ By two Q r) → Within numbers c
-  rows {A} {P} {Q} one two l k most more t = record {
-    within = λ r e. ⊎-elim (λ (w : By one P r). by-numbered one l most w) (λ (w : By two Q r). by-numbered two k more w) (t .says r e);
+      → Bounded P → Bounded Q → Row c (one ∷ two ∷ []) one P → Row c (one ∷ two ∷ []) two Q → Within numbers c
+  rows one two l k most more t u = record {
+    within = λ r e. ⊎-elim
+        (λ (q : r .number ≡ one). at-row one l most t r e q)
+        (λ (q : r .number ≡ two). at-row two k more u r e q)
+        (listed-two one two (r .number) (t .only r e));
   }
 
 -- ---- the counts that bound the positions
@@ -231,7 +252,7 @@ module _ (f : List ℕ) where
       walked-within : (t : Descriptors) → Within readerNumbers (globalsOf f H t)
       walked-within t =
           let s = descriptorTable f t in
-          rows readerNumbers 8 9 refl refl (unread-position f H s 8) (global-position f H s) (table f .row-8-9 H t)
+          rows readerNumbers 8 9 refl refl (unread-position f H s 8) (global-position f H s) (table f .row-8 H t) (table f .row-9 H t)
 
   -- what the reader has counted
   counted-most : All (readerChecks f) → (theRelocations f .entries ≤ entryLimit) × (length (globalsIn f (theModule f)) ≤ globalLimit)
@@ -246,7 +267,7 @@ module _ (f : List ℕ) where
       let R = theRelocations f in
       let ten = entry-at-position f H S R true l in
       let eleven = entry-at-position f H S R false l in
-      next (rows examineNumbers 10 11 refl refl ten eleven (table f .row-10-11 H S R)) (λ _. none))
+      next (rows examineNumbers 10 11 refl refl ten eleven (table f .row-10 H S R) (table f .row-11 H S R)) (λ _. none))
 
   load-each : (bias n p : ℕ) (choices : List ℕ) → Each loadNumbers (loadChecks f bias n p choices)
   load-each bias n p choices =
@@ -254,7 +275,7 @@ module _ (f : List ℕ) where
       let c = counted-most (all-front (readerChecks f) (relocationsCheck f H D (theRelocations f) ∷ []) a) in
       let R = theRelocations f in
       let gs = theGlobals f in
-      let l : length gs ≤ globalLimit = rw (globals-found (globalsOf f H (theDescriptors f))) at (c .1) in
+      let l = c .1 in
       let k = c .0 in
       let thirteen = lowest-position (badAddress f H D R bias) 0 (R .entries) (omega arith) in
       next (row loadNumbers 12 refl zero-position (table f .row-12 H bias n p)) (λ _.

@@ -1,7 +1,7 @@
 -- Each check refuses as its row of the table says, and no other way.
 -- Assumes nothing.
 use Prim.Native.Nat.{ℕ, zero, suc, _+_, _*_, _-_, _/_, _%_, _≤_, _<_}
-use mathlib.Core.Path.{_≡_, refl, ap, _∙_}
+use mathlib.Core.Path.{_≡_, refl, sym, ap, _∙_, subst}
 use mathlib.Core.Bool.{Bool, true, false, cond, not, _&&_}
 use mathlib.Core.List.{List, [], _∷_}
 use mathlib.Core.Logic.{_⊎_, inl, inr, ⊎-elim}
@@ -37,9 +37,18 @@ use Rattle.rules.proofs.FirstLaws.{first-le}
 use Rattle.rules.proofs.OutcomeLaws.{require-held}
 use Rattle.laws.proofs.Checks.{andThen-bad, require-stopped, faultless-all, all-faultless, some-at, some-all}
 use Rattle.demands.proofs.Lowest.{not-both, cond-bad, lowest-first, first-lowest, clear-first, first-clear, faultless-lowest, lowest-faultless}
-use Rattle.demands.specs.Table.{Lowest, Reaches, fits, By, Refuses, Table}
+use Rattle.demands.specs.Table.{listed, Lowest, Reaches, fits, Row, Table}
 use Rattle.demands.specs.Table.{DynamicFault, no-dynamic, second-dynamic, bad-dynamic, EntryFault, bad-entry, no-partner, Unread}
 use Rattle.demands.specs.Table.{GlobalFault, ends-high, outside-loads, left-over, EntryAt, ChoiceFault, wrong-number, bad-choice}
+
+-- a refusal with a number, at a position
+abbrev By : ℕ → (ℕ → Type 0) → Refusal → Type 0
+By code P r = (i : ℕ) × ((r ≡ refusal code i) × P i)
+
+-- a check refuses so, and no other way
+record Refuses {A : Type 0} (c : Outcome A) (Says : Refusal → Type 0) : Type 0 where
+  says : (r : Refusal) → c ≡ bad r → Says r
+  when : (r : Refusal) → Says r → c ≡ bad r
 
 -- a test that holds somewhere holds at some index
 at-some : (t : ℕ → Bool) (n i : ℕ) → i < n → t i ≡ true → someBelow t n ≡ true
@@ -367,29 +376,73 @@ unfolding choicesCheck
 choices-when gs choices i (wrong-number e q) = rw (ne-eqb (length choices) (length gs) e, q)
 choices-when gs choices i (bad-choice e l) = let s = lowest-faultless (badChoice gs choices) 14 (length gs) i l in rw (eq-eqb (length choices) (length gs) e, s)
 
+-- a check of one number, and one of two
+same-position : {P : ℕ → Type 0} (code i : ℕ) → By code P (refusal code i) → P i
+same-position {P} code i w = subst P (sym (ap (λ (r : Refusal). r .position) (w .1 .0))) (w .1 .1)
+
+one-row : {A : Type 0} {P : ℕ → Type 0} {c : Outcome A} (code : ℕ) → Refuses c (By code P) → Row c (code ∷ []) code P
+one-row code t = record {
+  only = λ r e. rw (t .says r e .1 .0, eq-eqb code code refl);
+  says = λ i e. same-position code i (t .says (refusal code i) e);
+  when = λ i w. t .when (refusal code i) (i, (refl, w));
+}
+
+module _ {A : Type 0} {P Q : ℕ → Type 0} {c : Outcome A} (one two : ℕ) (apart : one ≡ two → ⊥) (t : Refuses c (λ r. By one P r ⊎ By two Q r)) where
+  only-two : (r : Refusal) → c ≡ bad r → listed (one ∷ two ∷ []) (r .number) ≡ true
+  only-two r e =
+      ⊎-elim
+      (λ (w : By one P r). rw (w .1 .0, eq-eqb one one refl))
+      (λ (w : By two Q r). rw (w .1 .0, ne-eqb one two apart, eq-eqb two two refl))
+      (t .says r e)
+
+  first-row : Row c (one ∷ two ∷ []) one P
+  first-row = record {
+    only = only-two;
+    says = λ i e. ⊎-elim
+        (λ (w : By one P (refusal one i)). same-position one i w)
+        (λ (w : By two Q (refusal one i)). absurd (apart (ap (λ (r : Refusal). r .number) (w .1 .0))))
+        (t .says (refusal one i) e);
+    when = λ i w. t .when (refusal one i) (inl (i, (refl, w)));
+  }
+
+  second-row : Row c (one ∷ two ∷ []) two Q
+  second-row = record {
+    only = only-two;
+    says = λ i e. ⊎-elim
+        (λ (w : By one P (refusal two i)). absurd (apart (sym (ap (λ (r : Refusal). r .number) (w .1 .0)))))
+        (λ (w : By two Q (refusal two i)). same-position two i w)
+        (t .says (refusal two i) e);
+    when = λ i w. t .when (refusal two i) (inr (i, (refl, w)));
+  }
+
 pub table : (f : List ℕ) → Table f
 unfolding identificationCheck headerCheck loadsCheck addressesCheck
 table f = record {
-  row-1 = record {
+  row-1 = one-row 1 (record {
     says = λ r e. let s = size-row f e in (0, (s .1, (refl, s .0)));
     when = λ r w. row-size f (w .1 .1 .1) ∙ rw (w .1 .0, w .1 .1 .0);
-  };
-  row-2 = faultless-refuses 2 7 (wrongByte f);
-  row-3 = require-refuses _ 3 0 (λ e. e) (λ e. e);
-  row-4 = λ h. faultless-refuses 4 (h .count) (badLoad f h);
-  row-5 = λ h. record { says = dynamic-says f h; when = λ r w. dynamic-when f h (w .0) (w .1 .1) ∙ rw (w .1 .0) };
-  row-6 = λ d. record { says = entries-says f d; when = λ r w. entries-when f d (w .0) (w .1 .1) ∙ rw (w .1 .0) };
-  row-7 = λ h d. record {
+  });
+  row-2 = one-row 2 (faultless-refuses 2 7 (wrongByte f));
+  row-3 = one-row 3 (require-refuses _ 3 0 (λ e. e) (λ e. e));
+  row-4 = λ h. one-row 4 (faultless-refuses 4 (h .count) (badLoad f h));
+  row-5 = λ h. one-row 5 (record { says = dynamic-says f h; when = λ r w. dynamic-when f h (w .0) (w .1 .1) ∙ rw (w .1 .0) });
+  row-6 = λ d. one-row 6 (record { says = entries-says f d; when = λ r w. entries-when f d (w .0) (w .1 .1) ∙ rw (w .1 .0) });
+  row-7 = λ h d. one-row 7 (record {
     says = λ r e. let s = relocations-row f h d e in (0, (s .1, (refl, s .0)));
     when = λ r w. row-relocations f h d (w .1 .1 .1) ∙ rw (w .1 .0, w .1 .1 .0);
-  };
-  row-7-descriptors = λ h d. record {
+  });
+  row-7-descriptors = λ h d. one-row 7 (record {
     says = λ r e. let s = descriptors-row f h d e in (1, (s .1, (refl, s .0)));
     when = λ r w. row-descriptors f h d (w .1 .1 .1) ∙ rw (w .1 .0, w .1 .1 .0);
-  };
-  row-8-9 = walk-refuses f;
-  row-10-11 = entry-refuses f;
-  row-12 = λ h bias n p. require-refuses (fits f h bias n p) 12 0 (λ e. e) (λ e. e);
-  row-13 = λ h d t bias. faultless-refuses 13 (t .entries) (badAddress f h d t bias);
-  row-14 = λ gs choices. record { says = choices-says gs choices; when = λ r w. choices-when gs choices (w .0) (w .1 .1) ∙ rw (w .1 .0) };
+  });
+  row-8 = λ h t. first-row 8 9 (λ z. omega arith) (walk-refuses f h t);
+  row-9 = λ h t. second-row 8 9 (λ z. omega arith) (walk-refuses f h t);
+  row-10 = λ h symbols t. first-row 10 11 (λ z. omega arith) (entry-refuses f h symbols t);
+  row-11 = λ h symbols t. second-row 10 11 (λ z. omega arith) (entry-refuses f h symbols t);
+  row-12 = λ h bias n p. one-row 12 (require-refuses (fits f h bias n p) 12 0 (λ e. e) (λ e. e));
+  row-13 = λ h d t bias. one-row 13 (faultless-refuses 13 (t .entries) (badAddress f h d t bias));
+  row-14 = λ gs choices. one-row 14 (record {
+    says = choices-says gs choices;
+    when = λ r w. choices-when gs choices (w .0) (w .1 .1) ∙ rw (w .1 .0);
+  });
 }

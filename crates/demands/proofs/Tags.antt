@@ -2,28 +2,28 @@
 -- Assumes nothing.
 use Prim.Native.Nat.{ℕ, suc, _*_, _≤_, _<_}
 use mathlib.Core.Path.{_≡_, refl, sym, ap, _∙_}
-use mathlib.Core.Bool.{Bool, true, false, cond}
-use mathlib.Core.List.{List}
+use mathlib.Core.Bool.{true}
+use mathlib.Core.List.{List, []}
 use mathlib.Core.Logic.{inl, inr, ⊎-elim}
 use native.Mathlib.Nat.{eq-or-lt-of-le}
 use native.Mathlib.Omega.{arith}
 use lib.ListN.{length, getD}
-use lib.Dec.{eqb}
-use Rattle.rules.specs.Outcome.{Outcome, good, bad, require, refusal}
-use Rattle.rules.specs.First.{first, faultless}
+use Rattle.rules.specs.Outcome.{Outcome, good, bad}
 use Rattle.rules.specs.Relocations.{relocationsCheck}
 use Rattle.rules.specs.Examine.{moduleOf}
-use Rattle.rules.specs.Load.{loadOf, loaded, loadsEnd, imageOf, natural, addressAt, addressesCheck, badChoice, choicesCheck}
+use Rattle.rules.specs.Load.{loadOf, loaded, loadsEnd, imageOf, natural, addressAt, addressesCheck, choicesCheck}
 use Rattle.rules.specs.Load.{globalsIn, globalAt, endOf, planeOf, tagOf, writes, memoryFits, planeFits}
 use Rattle.rules.specs.declared.Refusal.{Refusal}
 use Rattle.rules.specs.declared.Global.{Global}
 use Rattle.rules.specs.declared.Module.{Module}
-use Rattle.laws.proofs.Checks.{le-or-lt, andThen-bad, require-stopped}
+use Rattle.laws.proofs.Checks.{le-or-lt}
 use Rattle.laws.proofs.KnownTags.{entries-base}
 use Rattle.demands.proofs.Exactly.{Passes, passes-taken}
 use Rattle.laws.proofs.Globals.{Rising}
 use Rattle.demands.proofs.Plane.{Chosen, plane-holds, plane-empty}
 use Rattle.demands.proofs.Image.{image-size}
+use Rattle.demands.proofs.Table.{table}
+use Rattle.demands.proofs.Refusals.{listed-one}
 use Rattle.demands.proofs.Plain.{segments-same, bare-checked, bare-words}
 use Rattle.demands.proofs.Sources.{tag-held, tag-unheld}
 use Rattle.laws.proofs.Writes.{writes-length, writes-agree, writes-at, low-bytes, top-byte, bare-byte}
@@ -67,19 +67,8 @@ choices-differ gs limit choices rising chosen i j l u (inr e) q =
     chosen .differ j (omega arith) (rw n e) (rw n q)
 
 -- check 14 refuses with its own number
-faultless-number : {r : Refusal} (number : ℕ) (f : ℕ → Bool) (n : ℕ) → faultless number f n ≡ bad r → r .number ≡ number
-faultless-number {r} number f n h = go (eqb (first f 0 n) n) h
-  where
-    go : (b : Bool) → cond {A = Outcome (Unit {0})} b (good tt) (bad (refusal number (first f 0 n))) ≡ bad r → r .number ≡ number
-    go true e = absurd (let z : _≡_ {A = ℕ} 0 1 = cc in omega arith)
-    go false e = let z : refusal number (first f 0 n) ≡ r = cc in sym (ap (λ (r : Refusal). r .number) z)
-
 choices-number : (gs : List Global) (choices : List ℕ) (r : Refusal) → choicesCheck gs choices ≡ bad r → r .number ≡ 14
-unfolding choicesCheck
-choices-number gs choices r e =
-    andThen-bad (require (eqb (length choices) (length gs)) 14 (length gs)) _ e
-    (λ q. ap (λ (r : Refusal). r .number) (require-stopped (eqb (length choices) (length gs)) 14 (length gs) q .1))
-    (λ _ _ q. faultless-number 14 (badChoice gs choices) (length gs) q)
+choices-number gs choices r e = listed-one 14 (r .number) (table [] .row-14 gs choices .only r e)
 
 choices-refused : (f : List ℕ) (bias n p : ℕ) (choices : List ℕ) (m : Module) → moduleOf f ≡ good m
     → relocationsCheck f (m .headers) (m .dynamic) (m .relocations) ≡ good tt → memoryFits (loadsEnd f (m .headers)) n bias ≡ true

@@ -1,25 +1,19 @@
 -- The demands of `specs/Demands.antt`, of every file, bias, memory, plane and list of choices.
 -- Assumes nothing.
 use Prim.Native.Nat.{ℕ}
-use mathlib.Core.Path.{_≡_, refl, sym, subst}
+use mathlib.Core.Path.{_≡_, sym, subst}
 use mathlib.Core.List.{List}
-use mathlib.Core.Logic.{_⊎_, inl, inr}
-use Rattle.rules.specs.Outcome.{Outcome, good, bad}
+use Rattle.rules.specs.Outcome.{good}
 use Rattle.rules.specs.Examine.{moduleOf}
 use Rattle.rules.specs.Load.{Loaded, loadOf, loaded}
-use Rattle.rules.specs.declared.Refusal.{Refusal}
 use Rattle.rules.specs.declared.Module.{Module}
+use Rattle.laws.proofs.Checks.{either}
 use Rattle.demands.proofs.Exactly.{exactly-read, exactly-examined, exactly-loaded, same-facts, Passes, taken-passes}
 use Rattle.demands.proofs.Standing.{passes-stands, leaves}
 use Rattle.demands.proofs.Refusals.{examines, load-refusal, load-facts}
 use Rattle.demands.proofs.Guards.{idle}
 use Rattle.demands.proofs.Tags.{tags}
 use Rattle.demands.specs.Demands.{Leaves, Tags, Claim}
-
--- an outcome is one of the two
-either-outcome : (o : Outcome Loaded) → ((l : Loaded) × (o ≡ good l)) ⊎ ((r : Refusal) × (o ≡ bad r))
-either-outcome (good l) = inl (l, refl)
-either-outcome (bad r) = inr (r, refl)
 
 -- what holds of every module that passes holds of the module and the answer of every load that is taken
 of-taken : (f : List ℕ) (bias n p : ℕ) (choices : List ℕ) (P : Module → Loaded → Type 0)
@@ -35,7 +29,7 @@ pub demands : Claim
 demands f bias n p choices = record {
   examines = examines f;
   answers = record {
-    either = either-outcome (loadOf f bias n p choices);
+    either = either (loadOf f bias n p choices);
     load-refusal = load-refusal f bias n p choices;
     load-facts = load-facts f bias n p choices;
     memory-kept = λ r lent e. rw e;

@@ -7,7 +7,7 @@ use mathlib.Core.List.{List, [], _∷_, _++_}
 use mathlib.Core.Logic.{_⊎_}
 use lib.ListN.{length}
 use lib.Dec.{eqb}
-use Rattle.rules.specs.Outcome.{Outcome, good, bad, refusal, andThen, require}
+use Rattle.rules.specs.Outcome.{Outcome, good, bad, refusal, andThen, found, require}
 use Rattle.rules.specs.Limits.{fileLeast, fileLimit, entryLimit, globalLimit, granule}
 use Rattle.rules.specs.Bytes.{le}
 use Rattle.rules.specs.Headers.{sizeCheck, wrongByte, identificationCheck, goodHeader, headerCheck}
@@ -46,15 +46,12 @@ First (c ∷ cs) r = (c ≡ bad r) ⊎ ((c ≡ good tt) × First cs r)
 
 -- ---- the checks of the three calls
 
--- a check that finds something, and what it finds; what stands behind a refusal is never reached
+-- a check that finds something: does it pass
 abbrev pub passed : {A : Type 0} → Outcome A → Outcome (Unit {0})
 passed (good a) = good tt
 passed (bad r) = bad r
 
-abbrev pub found : {A : Type 0} → A → Outcome A → A
-found other (good a) = a
-found other (bad r) = other
-
+-- what the checks find; what stands for a refusal is never reached
 abbrev pub theHeaders : List ℕ → Headers
 theHeaders f = record { table = le 8 f 32; count = le 2 f 56 }
 
@@ -195,32 +192,32 @@ pub data ChoiceFault (gs : List Global) (choices : List ℕ) (i : ℕ) : Type 0 
   wrong-number : (length choices ≡ length gs → ⊥) → i ≡ length gs → ChoiceFault gs choices i
   bad-choice : length choices ≡ length gs → Lowest (badChoice gs choices) 0 (length gs) i → ChoiceFault gs choices i
 
--- a refusal with a number, at a position
-abbrev pub By : ℕ → (ℕ → Type 0) → Refusal → Type 0
-By number At r = (i : ℕ) × ((r ≡ refusal number i) × At i)
+-- a row: of the numbers that a check gives it gives this one at exactly these positions
+pub record Row {A : Type 0} (c : Outcome A) (gives : List ℕ) (number : ℕ) (At : ℕ → Type 0) : Type 0 where
+  pub only : (r : Refusal) → c ≡ bad r → listed gives (r .number) ≡ true
+  pub says : (i : ℕ) → c ≡ bad (refusal number i) → At i
+  pub when : (i : ℕ) → At i → c ≡ bad (refusal number i)
 
--- a check refuses so, and no other way
-pub record Refuses {A : Type 0} (c : Outcome A) (Says : Refusal → Type 0) : Type 0 where
-  pub says : (r : Refusal) → c ≡ bad r → Says r
-  pub when : (r : Refusal) → Says r → c ≡ bad r
-
+-- 7 has two rows, as document 01 has two positions; 8 and 9 come from one walk, 10 and 11 from another
 pub record Table (f : List ℕ) : Type 0 where
-  pub row-1 : Refuses (sizeCheck f) (By 1 (λ i. (i ≡ 0) × ((length f < fileLeast) ⊎ (fileLimit < length f))))
-  pub row-2 : Refuses (identificationCheck f) (By 2 (Lowest (wrongByte f) 0 7))
-  pub row-3 : Refuses (headerCheck f) (By 3 (λ i. (i ≡ 0)
-      × (goodHeader (length f) (le 2 f 16) (le 2 f 18) (le 4 f 20) (le 2 f 54) (le 2 f 56) (le 8 f 32) ≡ false)))
-  pub row-4 : (h : Headers) → Refuses (loadsCheck f h) (By 4 (Lowest (badLoad f h) 0 (h .count)))
-  pub row-5 : (h : Headers) → Refuses (dynamicOf f h) (By 5 (DynamicFault f h))
-  pub row-6 : (d : Dynamic) → Refuses (entriesCheck knownTags f d) (By 6 (EntryFault f d))
-  pub row-7 : (h : Headers) (d : Dynamic) → Refuses (relocationsOf f h d) (By 7 (λ i. (i ≡ 0)
-      × ((tablePlace f h (relaAddress f d) (relaBytes f d) ≡ Nowhere) ⊎ (entryLimit < relaBytes f d / 24))))
-  pub row-7-descriptors : (h : Headers) (d : Dynamic) → Refuses (descriptorsOf f h d) (By 7 (λ i. (i ≡ 1)
-      × (tablePlace f h (descriptorAddress f d) (descriptorBytes f d) ≡ Nowhere)))
-  pub row-8-9 : (h : Headers) (t : Descriptors) → Refuses (globalsOf f h t)
-      (λ r. By 8 (Unread f h (descriptorTable f t) 8) r ⊎ By 9 (GlobalFault f h (descriptorTable f t)) r)
-  pub row-10-11 : (h : Headers) (symbols : Entry) (t : Relocations) → Refuses (relocationsIn f h symbols t)
-      (λ r. By 10 (EntryAt f h symbols t true) r ⊎ By 11 (EntryAt f h symbols t false) r)
-  pub row-12 : (h : Headers) (bias n p : ℕ) → Refuses (require (fits f h bias n p) 12 0) (By 12 (λ i. (i ≡ 0) × (fits f h bias n p ≡ false)))
+  pub row-1 : Row (sizeCheck f) (1 ∷ []) 1 (λ i. (i ≡ 0) × ((length f < fileLeast) ⊎ (fileLimit < length f)))
+  pub row-2 : Row (identificationCheck f) (2 ∷ []) 2 (Lowest (wrongByte f) 0 7)
+  pub row-3 : Row (headerCheck f) (3 ∷ []) 3 (λ i. (i ≡ 0)
+      × (goodHeader (length f) (le 2 f 16) (le 2 f 18) (le 4 f 20) (le 2 f 54) (le 2 f 56) (le 8 f 32) ≡ false))
+  pub row-4 : (h : Headers) → Row (loadsCheck f h) (4 ∷ []) 4 (Lowest (badLoad f h) 0 (h .count))
+  pub row-5 : (h : Headers) → Row (dynamicOf f h) (5 ∷ []) 5 (DynamicFault f h)
+  pub row-6 : (d : Dynamic) → Row (entriesCheck knownTags f d) (6 ∷ []) 6 (EntryFault f d)
+  pub row-7 : (h : Headers) (d : Dynamic) → Row (relocationsOf f h d) (7 ∷ []) 7 (λ i. (i ≡ 0)
+      × ((tablePlace f h (relaAddress f d) (relaBytes f d) ≡ Nowhere) ⊎ (entryLimit < relaBytes f d / 24)))
+  pub row-7-descriptors : (h : Headers) (d : Dynamic) → Row (descriptorsOf f h d) (7 ∷ []) 7 (λ i. (i ≡ 1)
+      × (tablePlace f h (descriptorAddress f d) (descriptorBytes f d) ≡ Nowhere))
+  pub row-8 : (h : Headers) (t : Descriptors) → Row (globalsOf f h t) (8 ∷ 9 ∷ []) 8 (Unread f h (descriptorTable f t) 8)
+  pub row-9 : (h : Headers) (t : Descriptors) → Row (globalsOf f h t) (8 ∷ 9 ∷ []) 9 (GlobalFault f h (descriptorTable f t))
+  pub row-10 : (h : Headers) (symbols : Entry) (t : Relocations)
+      → Row (relocationsIn f h symbols t) (10 ∷ 11 ∷ []) 10 (EntryAt f h symbols t true)
+  pub row-11 : (h : Headers) (symbols : Entry) (t : Relocations)
+      → Row (relocationsIn f h symbols t) (10 ∷ 11 ∷ []) 11 (EntryAt f h symbols t false)
+  pub row-12 : (h : Headers) (bias n p : ℕ) → Row (require (fits f h bias n p) 12 0) (12 ∷ []) 12 (λ i. (i ≡ 0) × (fits f h bias n p ≡ false))
   pub row-13 : (h : Headers) (d : Dynamic) (t : Relocations) (bias : ℕ)
-      → Refuses (addressesCheck f h d t bias) (By 13 (Lowest (badAddress f h d t bias) 0 (t .entries)))
-  pub row-14 : (gs : List Global) (choices : List ℕ) → Refuses (choicesCheck gs choices) (By 14 (ChoiceFault gs choices))
+      → Row (addressesCheck f h d t bias) (13 ∷ []) 13 (Lowest (badAddress f h d t bias) 0 (t .entries))
+  pub row-14 : (gs : List Global) (choices : List ℕ) → Row (choicesCheck gs choices) (14 ∷ []) 14 (ChoiceFault gs choices)

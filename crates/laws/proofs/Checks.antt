@@ -14,6 +14,11 @@ use Rattle.rules.specs.First.{first, someBelow, faultless}
 use Rattle.rules.proofs.FirstLaws.{first-le, first-all, first-end, first-true}
 use Rattle.rules.proofs.OutcomeLaws.{cond-held}
 
+-- an outcome is one of the two
+pub either : {A : Type 0} (o : Outcome A) → ((a : A) × (o ≡ good a)) ⊎ ((r : Refusal) × (o ≡ bad r))
+either (good a) = inl (a, refl)
+either (bad r) = inr (r, refl)
+
 pub or-left : (a b : Bool) → (a || b) ≡ false → a ≡ false
 or-left true b h = h
 or-left false b h = refl

@@ -6,7 +6,7 @@ use mathlib.Core.List.{List, []}
 use lib.ListN.{length, getD, replicate}
 use lib.Dec.{ltb, leb, eqb}
 use lib.IntN.{ℤ, pos, negsuc, _+ℤ_}
-use Rattle.rules.specs.Outcome.{Outcome, good, bad, andThen, require}
+use Rattle.rules.specs.Outcome.{Outcome, good, bad, andThen, found, require}
 use Rattle.rules.specs.Limits.{memoryLimit, addressLimit, granule}
 use Rattle.rules.specs.Bytes.{le, part}
 use Rattle.rules.specs.First.{faultless}
@@ -86,8 +86,7 @@ addressesCheck f h d r bias = faultless 13 (badAddress f h d r bias) (r .entries
 
 -- the globals that the table lists
 abbrev pub listOf : Outcome (List Global) → List Global
-listOf (good gs) = gs
-listOf (bad r) = []
+listOf o = found [] o
 
 abbrev pub globalsIn : List ℕ → Module → List Global
 globalsIn f m = listOf (globalsOf f (m .headers) (m .descriptors))

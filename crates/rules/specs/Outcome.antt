@@ -20,6 +20,11 @@ abbrev pub andThen : {A B : Type 0} → Outcome A → (A → Outcome B) → Outc
 andThen (good a) k = k a
 andThen (bad r) k = bad r
 
+-- what a check found; the other value stands for a refusal
+abbrev pub found : {A : Type 0} → A → Outcome A → A
+found other (good a) = a
+found other (bad r) = other
+
 -- a test, refused with a number and position where it does not hold
 abbrev pub require : Bool → ℕ → ℕ → Outcome (Unit {0})
 require test number position = cond test (good tt) (refuse number position)

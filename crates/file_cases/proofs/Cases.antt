@@ -3,7 +3,7 @@
 use mathlib.Core.Path.{refl}
 use Rattle.rules.specs.Bytes.{le}
 use Rattle.rules.specs.First.{first, countBelow}
-use Rattle.rules.specs.Memory.{over, put, putWord}
+use Rattle.rules.specs.Memory.{over, put}
 use Rattle.rules.specs.Headers.{sizeCheck, wrongByte, identificationCheck, goodHeader, headerCheck, headersOf}
 use Rattle.rules.specs.Segments.{headerAt, powerBelow, aligned, goodLoad, endBefore, badLoad, loadsCheck}
 use Rattle.rules.specs.Segments.{covers, backs, backsAt, backing, placeOf, holds, holdsAt, inMemory}
@@ -14,22 +14,18 @@ use Rattle.rules.specs.Descriptors.{ulebIn, placed, second, descriptor, stepAt,
 use Rattle.rules.specs.Relocations.{symbolPlace, symbolOf, targetOf, namedTarget, target, hasPlace, taken, placeFits, goodPlace}
 use Rattle.rules.specs.Relocations.{badRelocation, firstBad, relocationsIn, relocationsCheck, wordsOf}
 use Rattle.rules.specs.Examine.{moduleOf, factsOf, examinedOf}
-use Rattle.rules.specs.Load.{memoryFits, planeFits, loadsOver, badAddress, addressesCheck, badChoice, choicesCheck, tagged, writes, loadOf}
-use Rattle.demands.specs.Plain.{segmentsOf, badBare, bareWords, plainOf}
-use Rattle.cases.specs.Cases.{CasesHold}
+use Rattle.file_cases.specs.Cases.{FileCasesHold}
 
-pub cases-hold : CasesHold
-unfolding le first countBelow over put putWord sizeCheck wrongByte identificationCheck goodHeader headerCheck headersOf
+pub file-cases-hold : FileCasesHold
+unfolding le first countBelow over put sizeCheck wrongByte identificationCheck goodHeader headerCheck headersOf
     headerAt powerBelow aligned goodLoad endBefore badLoad loadsCheck covers backs backsAt backing placeOf holds holdsAt inMemory
     isDynamicAt dynamicFrom isNullAt nullEntry goodSize dynamicAt dynamicOf isRow rowOf hasTagAt tagBefore badEntry hasTag partnerless
-    entriesCheck entryOf tablePlace relocationsOf descriptorsOf ulebIn placed second descriptor stepAt globalsFrom globalsOf
+    entriesCheck entryOf tablePlace relocationsOf descriptorsOf ulebIn placed second descriptor stepAt globalsFrom globalsOf moduleOf
     symbolPlace symbolOf targetOf namedTarget target hasPlace taken placeFits goodPlace badRelocation firstBad relocationsIn
-    relocationsCheck wordsOf moduleOf factsOf examinedOf memoryFits planeFits loadsOver badAddress addressesCheck badChoice choicesCheck
-    tagged writes loadOf segmentsOf badBare bareWords plainOf
-cases-hold = record {
-  load = refl;
-  examine = refl;
-  plain = refl;
+    relocationsCheck wordsOf factsOf examinedOf
+file-cases-hold = record {
+  read = refl;
+  examined = refl;
   headers = refl;
   loads = refl;
   dynamics = refl;
@@ -38,7 +34,4 @@ cases-hold = record {
   descriptors = refl;
   symbols = refl;
   places = refl;
-  lending = refl;
-  addresses = refl;
-  choices = refl;
 }
