@@ -387,7 +387,10 @@ one-row code t = record {
   when = λ i w. t .when (refusal code i) (i, (refl, w));
 }
 
-module _ {A : Type 0} {P Q : ℕ → Type 0} {c : Outcome A} (one two : ℕ) (apart : one ≡ two → ⊥) (t : Refuses c (λ r. By one P r ⊎ By two Q r)) where
+abbrev ByTwo : ℕ → ℕ → (ℕ → Type 0) → (ℕ → Type 0) → Refusal → Type 0
+ByTwo one two P Q r = By one P r ⊎ By two Q r
+
+module _ {A : Type 0} {P Q : ℕ → Type 0} {c : Outcome A} (one two : ℕ) (apart : one ≡ two → ⊥) (t : Refuses c (ByTwo one two P Q)) where
   only-two : (r : Refusal) → c ≡ bad r → listed (one ∷ two ∷ []) (r .number) ≡ true
   only-two r e =
       ⊎-elim
