@@ -75,7 +75,7 @@ fn put_dynamic(f: &mut [u8], i: u8, tag: u64, value: u64)
 }
 
 // A RELATIVE relocation by its index: a place and an addend.
-fn put_relative(f: &mut [u8], i: u16, place: u64, addend: u64)
+fn put_relative(f: &mut [u8], i: u32, place: u64, addend: u64)
     ensures { λ _. ⌜ now (f .exit) ≡ putWord (putWord (putWord (now (f .entry)) (512 + 24 * i) place) (512 + 24 * i + 8) 1027) (512 + 24 * i + 16) addend ⌝ }
 {
     let at = RELA + 24 * (i as usize);
@@ -104,14 +104,14 @@ fn put_file_header(f: &mut [u8]) {
     memory::put_bytes(f, 54, b"\x38\x00\x02\x00");
 }
 
-fn rela_bytes(entries: u16) -> u64
+fn rela_bytes(entries: u32) -> u64
     ensures { λ r. ⌜ r ≡ 24 * entries ⌝ }
 {
     24 * (entries as u64)
 }
 
 // The dynamic table of an image with so many relocations.
-fn put_table(f: &mut [u8], entries: u16) {
+fn put_table(f: &mut [u8], entries: u32) {
     put_dynamic(f, 0, 7, RELA as u64);
     put_dynamic(f, 1, 8, rela_bytes(entries));
     put_dynamic(f, 2, 9, 24);
@@ -120,7 +120,7 @@ fn put_table(f: &mut [u8], entries: u16) {
 }
 
 // An image of the sheet's three globals, all but the relocations themselves.
-fn put_image(f: &mut [u8], filesz: u64, memsz: u64, entries: u16) {
+fn put_image(f: &mut [u8], filesz: u64, memsz: u64, entries: u32) {
     put_file_header(f);
     put_header(f, 0, WRITABLE_LOAD, 0, filesz, memsz);
     put_header(f, 1, PT_DYNAMIC, ENTRIES as u64, 96, 96);
@@ -174,14 +174,14 @@ fn run_sheet(name: &[u8], bias: u64, addend: u64, loaded: u64, choices: &[u8]) {
     run_load(&f, bias, &mut memory, &mut plane, choices, PLACE);
 }
 
-fn put_relocations(f: &mut [u8], entries: u16) {
+fn put_relocations(f: &mut [u8], entries: u32) {
     for i in 0..entries {
         put_relative(f, i, LONG_PLACE + 8 * (i as u64), 0x10c0);
     }
 }
 
 // The image long enough with so many relocations; the word is that of the entry of index 1,023.
-fn run_long(name: &[u8], entries: u16) {
+fn run_long(name: &[u8], entries: u32) {
     let mut f = [0u8; FILE];
     let mut memory = [0u8; LONG_MEMORY];
     let mut plane = [0u8; LONG_PLANE];

@@ -11,10 +11,10 @@ use borrow.Author.Tests.{leb-true, leb-false, le-leb, le-ltb}
 use Rattle.rules.specs.Outcome.{good}
 use Rattle.rules.specs.Limits.{fileLeast, fileLimit, memoryLimit}
 use Rattle.rules.specs.Headers.{sizeCheck, headersOf}
-use Rattle.rules.specs.Segments.{headerAt, isLoad, loadsCheck, covers, backs, backsAt, backing, placeOf}
-use Rattle.rules.specs.Relocations.{symbolPlace}
+use Rattle.rules.specs.Segments.{headerAt, isLoad, loadsCheck, covers, backs, backsAt, backer, backingOf}
+use Rattle.rules.specs.Relocations.{symbolBacking}
 use Rattle.rules.specs.declared.Headers.{Headers}
-use Rattle.rules.specs.declared.Place.the-variants.{Nowhere}
+use Rattle.rules.specs.declared.Backing.the-variants.{Nowhere}
 use Rattle.rules.proofs.OutcomeLaws.{and-left, and-right, andThen-good, require-held}
 use Rattle.laws.proofs.Checks.{all-end}
 use Rattle.laws.proofs.Loads.{load-good, covers-within}
@@ -56,16 +56,16 @@ module _ (f : List ℕ) (h : Headers) (headers : headersOf f ≡ good h) (loads 
           let y = g .sized in
           absurd (omega arith)
 
-  symbol-backed : (a n : ℕ) → cond (leb a memoryLimit) (placeOf f h a n) Nowhere ≡ placeOf f h a n
-  unfolding placeOf backing
+  symbol-backed : (a n : ℕ) → cond (leb a memoryLimit) (backingOf f h a n) Nowhere ≡ backingOf f h a n
+  unfolding backingOf backer
   symbol-backed a n = go (leb a memoryLimit) refl
     where
-      go : (b : Bool) → leb a memoryLimit ≡ b → cond b (placeOf f h a n) Nowhere ≡ placeOf f h a n
+      go : (b : Bool) → leb a memoryLimit ≡ b → cond b (backingOf f h a n) Nowhere ≡ backingOf f h a n
       go true q = refl
       go false q =
           let e = all-end (backsAt f h a n) (h .count) (λ i l. high a n i (leb-false a memoryLimit q) l) in
           rw (e, le-ltb (h .count) (h .count) (omega arith))
 
   pub idle : Idle f h
-  unfolding symbolPlace
+  unfolding symbolBacking
   idle = record { backed = backed; symbol-backed = λ n table. symbol-backed (table + 24 * n) 24 }

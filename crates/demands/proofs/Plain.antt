@@ -18,12 +18,12 @@ use Rattle.rules.specs.Memory.{bytesOf, putWord, signed}
 use Rattle.rules.specs.Headers.{headersOf}
 use Rattle.rules.specs.Segments.{headerAt, isLoad, loadsCheck}
 use Rattle.rules.specs.Dynamic.{entryOf}
-use Rattle.rules.specs.Relocations.{abs64, globDat, relative, placeAt, kindAt, symbolAt, addendAt, live, symbolPlace, symbolOf}
+use Rattle.rules.specs.Relocations.{abs64, globDat, relative, placeAt, kindAt, symbolAt, addendAt, live, symbolBacking, symbolOf}
 use Rattle.rules.specs.Relocations.{targetOf, namedTarget, target, targetAt, barred, badRelocation, firstBad, relocationsIn, relocationsCheck}
 use Rattle.rules.specs.Load.{loadsEnd, loadsOver, baseOf, outOfRange, natural, addressAt, badAddress, addressesCheck, writes}
 use Rattle.rules.specs.declared.Headers.{Headers}
-use Rattle.rules.specs.declared.Place.{Place}
-use Rattle.rules.specs.declared.Place.the-variants as place
+use Rattle.rules.specs.declared.Backing.{Backing}
+use Rattle.rules.specs.declared.Backing.the-variants as place
 use Rattle.rules.specs.declared.Entry.{Entry}
 use Rattle.rules.specs.declared.Entry.the-variants.{Absent, Value}
 use Rattle.rules.specs.declared.Dynamic.{Dynamic}
@@ -53,7 +53,7 @@ in-range-same (pos x) h = refl
 in-range-same (negsuc x) h = absurd (let z : _≡_ {A = ℕ} 0 1 = cc in omega arith)
 
 -- a symbol that is allowed has the address that its target has
-named-base : (f : List ℕ) (bias : ℕ) (p : Place) → barred (namedTarget f p) ≡ false → baseOf bias (namedTarget f p) ≡ symbolAddress f bias p
+named-base : (f : List ℕ) (bias : ℕ) (p : Backing) → barred (namedTarget f p) ≡ false → baseOf bias (namedTarget f p) ≡ symbolAddress f bias p
 unfolding namedTarget targetOf symbolOf
 named-base f bias place.Nowhere h = absurd (let z : _≡_ {A = ℕ} 0 1 = cc in omega arith)
 named-base f bias (place.At at) h =
@@ -72,28 +72,28 @@ named-base f bias (place.At at) h =
 
 target-base : (f : List ℕ) (h : Headers) (symbols : Entry) (bias kind symbol : ℕ) → barred (target f h symbols kind symbol) ≡ false
     → pos (baseOf bias (target f h symbols kind symbol))
-    ≡ cond (eqb kind relative) (pos bias) (pos (symbolAddress f bias (symbolPlace f h symbol symbols)))
+    ≡ cond (eqb kind relative) (pos bias) (pos (symbolAddress f bias (symbolBacking f h symbol symbols)))
 unfolding target
 target-base f h symbols bias kind symbol t =
     go (eqb kind relative) (eqb symbol 0) (eqb kind abs64 || eqb kind globDat) t
   where
     N : Target
-    N = namedTarget f (symbolPlace f h symbol symbols)
+    N = namedTarget f (symbolBacking f h symbol symbols)
 
     go : (a b c : Bool)
         → barred (cond a (cond b Base Barred) (cond c (cond b Barred N) Barred)) ≡ false
         → pos (baseOf bias (cond a (cond b Base Barred) (cond c (cond b Barred N) Barred)))
-        ≡ cond a (pos bias) (pos (symbolAddress f bias (symbolPlace f h symbol symbols)))
+        ≡ cond a (pos bias) (pos (symbolAddress f bias (symbolBacking f h symbol symbols)))
     go true true c t = refl
     go true false c t = absurd (let z : _≡_ {A = ℕ} 0 1 = cc in omega arith)
     go false true true t = absurd (let z : _≡_ {A = ℕ} 0 1 = cc in omega arith)
-    go false false true t = ap pos (named-base f bias (symbolPlace f h symbol symbols) t)
+    go false false true t = ap pos (named-base f bias (symbolBacking f h symbol symbols) t)
     go false b false t = absurd (let z : _≡_ {A = ℕ} 0 1 = cc in omega arith)
 
 module _ (f : List ℕ) (h : Headers) (headed : headersOf f ≡ good h) (loads : loadsCheck f h ≡ good tt) where
   -- a symbol's entry, without the guard of the rules
-  entry-same : (symbols : Entry) (n : ℕ) → symbolPlace f h n symbols ≡ symbolEntry f h symbols n
-  unfolding symbolPlace
+  entry-same : (symbols : Entry) (n : ℕ) → symbolBacking f h n symbols ≡ symbolEntry f h symbols n
+  unfolding symbolBacking
   entry-same Absent n = refl
   entry-same (Value table) n = idle f h headed loads .symbol-backed n table
 
@@ -109,7 +109,7 @@ module _ (f : List ℕ) (h : Headers) (headed : headersOf f ≡ good h) (loads :
     address-same k l t =
         ap (λ (b : ℤ). b +ℤ signed (addendAt f r k))
         (target-base f h (entryOf f d 6) bias (kindAt f r k) (symbolAt f r k) (target-allowed k l t)
-        ∙ ap (λ (p : Place). cond (eqb (kindAt f r k) relative) (pos bias) (pos (symbolAddress f bias p))) (entry-same (entryOf f d 6) (symbolAt f r k)))
+        ∙ ap (λ (p : Backing). cond (eqb (kindAt f r k) relative) (pos bias) (pos (symbolAddress f bias p))) (entry-same (entryOf f d 6) (symbolAt f r k)))
 
     -- check 13
     pub bare-checked : addressesCheck f h d r bias ≡ good tt → faultless 13 (badBare f h d r bias) (r .entries) ≡ good tt

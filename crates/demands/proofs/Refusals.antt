@@ -16,15 +16,15 @@ use Rattle.rules.specs.First.{first}
 use Rattle.rules.specs.Headers.{wrongByte, goodHeader, headerCheck}
 use Rattle.rules.specs.Segments.{badLoad}
 use Rattle.rules.specs.Dynamic.{entryOf, nullEntry, goodSize, dynamicAt, firstDynamic, secondDynamic, dynamicOf}
-use Rattle.rules.specs.Tables.{tablePlace, backed, relaAddress, relaBytes, relocationsOf}
+use Rattle.rules.specs.Tables.{tableBacking, backed, relaAddress, relaBytes, relocationsOf}
 use Rattle.rules.specs.Descriptors.{number, globalsOf, descriptorTable}
 use Rattle.rules.specs.Relocations.{live, relocationsCheck, wordsOf}
 use Rattle.rules.specs.Examine.{moduleOf, factsOf, examinedOf}
 use Rattle.rules.specs.Load.{Loaded, loadOf, badAddress, globalsIn}
 use Rattle.rules.specs.declared.Refusal.{Refusal}
 use Rattle.rules.specs.declared.Headers.{Headers}
-use Rattle.rules.specs.declared.Place.{Place}
-use Rattle.rules.specs.declared.Place.the-variants.{At, Nowhere}
+use Rattle.rules.specs.declared.Backing.{Backing}
+use Rattle.rules.specs.declared.Backing.the-variants.{At, Nowhere}
 use Rattle.rules.specs.declared.Dynamic.{Dynamic}
 use Rattle.rules.specs.declared.Relocations.{Relocations}
 use Rattle.rules.specs.declared.Entry.{Entry}
@@ -152,7 +152,7 @@ header-count size kind machine version width count table h =
     let e = and-left (leb 1 count && leb count headerLimit) _ d in
     leb-true count headerLimit (and-right (leb 1 count) _ e)
 
-dynamicAt-entries : (f : List ℕ) (i size : ℕ) (p : Place) (d : Dynamic) → dynamicAt f i size p ≡ good d → d .entries ≤ 256
+dynamicAt-entries : (f : List ℕ) (i size : ℕ) (p : Backing) (d : Dynamic) → dynamicAt f i size p ≡ good d → d .entries ≤ 256
 unfolding dynamicAt goodSize
 dynamicAt-entries f i size Nowhere d e = absurd (let z : _≡_ {A = ℕ} 0 1 = cc in omega arith)
 dynamicAt-entries f i size (At at) d e =
@@ -172,7 +172,7 @@ dynamic-entries f h d e =
 pub relocations-count : (f : List ℕ) (h : Headers) (d : Dynamic) (r : Relocations) → relocationsOf f h d ≡ good r → r .entries ≤ entryLimit
 unfolding relocationsOf
 relocations-count f h d r e =
-    let a = andThen-good (backed 0 (tablePlace f h (relaAddress f d) (relaBytes f d))) _ e in
+    let a = andThen-good (backed 0 (tableBacking f h (relaAddress f d) (relaBytes f d))) _ e in
     let b = andThen-good (require (leb (relaBytes f d / 24) entryLimit) 7 0) _ (a .rest) in
     let l = leb-true (relaBytes f d / 24) entryLimit (require-held _ 7 0 (b .here)) in
     good-same (λ (r : Relocations). r .entries ≤ entryLimit) _ r (b .rest) l

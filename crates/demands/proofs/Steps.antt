@@ -10,7 +10,7 @@ use lib.Dec.{leb, ltb, eqb}
 use borrow.Author.Tests.{leb-true, le-leb, ltb-true, ltb-false, le-ltb, eq-eqb}
 use Rattle.rules.specs.Outcome.{good}
 use Rattle.rules.specs.Limits.{addressLimit, granule}
-use Rattle.rules.specs.Descriptors.{Uleb, number, malformed, extend, lastLimit, ulebIn, ulebAt, Read, finished, global, placed, second, descriptor, stepAt}
+use Rattle.rules.specs.Descriptors.{Uleb, number, malformed, extend, lastLimit, ulebIn, ulebAt, Read, finished, global, globalAfter, second, descriptor, stepAt}
 use Rattle.rules.specs.declared.Cursor.{Cursor}
 use Rattle.rules.proofs.OutcomeLaws.{cond-held}
 use Rattle.laws.proofs.Checks.{cond-case, good-same}
@@ -50,17 +50,17 @@ abbrev Moves : ℕ → ℕ → Read → Type 0
 Moves at size finished = ⊥
 Moves at size (global g c) = Past at size 20 (c .position)
 
-placed-moves : (at size index end distance granules next : ℕ) (r : Read) → Past at size 20 next
-    → placed index end distance granules next ≡ good r → Moves at size r
-unfolding placed
-placed-moves at size index end distance granules next r h e =
+global-moves : (at size index end distance granules next : ℕ) (r : Read) → Past at size 20 next
+    → globalAfter index end distance granules next ≡ good r → Moves at size r
+unfolding globalAfter
+global-moves at size index end distance granules next r h e =
     good-same (λ (r : Read). Moves at size r) _ r (cond-held _ (leb (end + granule * distance + granule * granules) addressLimit) _ e .1) h
 
 second-moves : (at size index end distance next : ℕ) (u : Uleb) (r : Read) → Past at size 10 next → Stands next size 10 u
     → second index end distance u ≡ good r → Moves at size r
 unfolding second
 second-moves at size index end distance next (number v after) r h k e =
-    placed-moves at size index end distance (v + 1) after r (omega arith, (k .1 .0, omega arith)) e
+    global-moves at size index end distance (v + 1) after r (omega arith, (k .1 .0, omega arith)) e
 second-moves at size index end distance next malformed r h k e = absurd (let z : _≡_ {A = ℕ} 0 1 = cc in omega arith)
 
 descriptor-moves : (index : ℕ) (s : List ℕ) (at end : ℕ) (u : Uleb) (r : Read) → Stands at (length s) 10 u
@@ -68,9 +68,9 @@ descriptor-moves : (index : ℕ) (s : List ℕ) (at end : ℕ) (u : Uleb) (r : R
 unfolding descriptor
 descriptor-moves index s at end (number v next) r h e = go (eqb (v % 8) 0) e
   where
-    go : (b : Bool) → cond b (second index end (v / 8) (ulebAt s next)) (placed index end (v / 8) (v % 8) next) ≡ good r → Moves at (length s) r
+    go : (b : Bool) → cond b (second index end (v / 8) (ulebAt s next)) (globalAfter index end (v / 8) (v % 8) next) ≡ good r → Moves at (length s) r
     go true q = second-moves at (length s) index end (v / 8) next (ulebAt s next) r h (uleb-stands s 10 next) q
-    go false q = placed-moves at (length s) index end (v / 8) (v % 8) next r (h .0, (h .1 .0, omega arith)) q
+    go false q = global-moves at (length s) index end (v / 8) (v % 8) next r (h .0, (h .1 .0, omega arith)) q
 descriptor-moves index s at end malformed r h e = absurd (let z : _≡_ {A = ℕ} 0 1 = cc in omega arith)
 
 -- what a good step has found: the table's end, or a global

@@ -18,16 +18,16 @@ use Rattle.rules.specs.Headers.{sizeCheck, wrongByte, identificationCheck, head
 use Rattle.rules.specs.Segments.{badLoad, loadsCheck, inMemory}
 use Rattle.rules.specs.Dynamic.{isDynamicAt, dynamicFrom, firstDynamic, secondDynamic, goodSize, nullEntry, dynamicAt, dynamicOf}
 use Rattle.rules.specs.Dynamic.{knownTags, badEntry, partnerless, entriesCheck}
-use Rattle.rules.specs.Tables.{tablePlace, backed, relaAddress, relaBytes, descriptorAddress, descriptorBytes, relocationsOf, descriptorsOf}
-use Rattle.rules.specs.Descriptors.{Uleb, number, malformed, Read, finished, global, ulebAt, placed, second, descriptor, stepAt}
+use Rattle.rules.specs.Tables.{tableBacking, backed, relaAddress, relaBytes, descriptorAddress, descriptorBytes, relocationsOf, descriptorsOf}
+use Rattle.rules.specs.Descriptors.{Uleb, number, malformed, Read, finished, global, ulebAt, globalAfter, second, descriptor, stepAt}
 use Rattle.rules.specs.Descriptors.{onGlobal, globalsFrom, globalsOf, descriptorTable, tableStart}
 use Rattle.rules.specs.Relocations.{targetIn, barred, badRelocation, firstBad, relocationsIn}
 use Rattle.rules.specs.Load.{badAddress, addressesCheck, badChoice, choicesCheck}
 use Rattle.rules.specs.declared.Refusal.{Refusal}
 use Rattle.rules.specs.declared.Headers.{Headers}
 use Rattle.rules.specs.declared.Dynamic.{Dynamic}
-use Rattle.rules.specs.declared.Place.{Place}
-use Rattle.rules.specs.declared.Place.the-variants.{At, Nowhere}
+use Rattle.rules.specs.declared.Backing.{Backing}
+use Rattle.rules.specs.declared.Backing.the-variants.{At, Nowhere}
 use Rattle.rules.specs.declared.Relocations.{Relocations}
 use Rattle.rules.specs.declared.Entry.{Entry}
 use Rattle.rules.specs.declared.Descriptors.{Descriptors}
@@ -81,7 +81,7 @@ row-size f (inr l) = go (leb fileLeast (length f))
 
 -- ---- check 5
 
-dynamicAt-refusal : {r : Refusal} (f : List ℕ) (i size : ℕ) (p : Place) → dynamicAt f i size p ≡ bad r → r ≡ refusal 5 i
+dynamicAt-refusal : {r : Refusal} (f : List ℕ) (i size : ℕ) (p : Backing) → dynamicAt f i size p ≡ bad r → r ≡ refusal 5 i
 unfolding dynamicAt
 dynamicAt-refusal f i size Nowhere e = cc
 dynamicAt-refusal f i size (At at) e =
@@ -90,40 +90,40 @@ dynamicAt-refusal f i size (At at) e =
 
 -- ---- check 7
 
-backed-row : {r : Refusal} (position : ℕ) (p : Place) → backed position p ≡ bad r → (p ≡ Nowhere) × (r ≡ refusal 7 position)
+backed-row : {r : Refusal} (position : ℕ) (p : Backing) → backed position p ≡ bad r → (p ≡ Nowhere) × (r ≡ refusal 7 position)
 backed-row position Nowhere e = (refl, cc)
 backed-row position (At at) e = absurd (let z : _≡_ {A = ℕ} 0 1 = cc in omega arith)
 
 relocations-row : {r : Refusal} (f : List ℕ) (h : Headers) (d : Dynamic) → relocationsOf f h d ≡ bad r
-    → ((tablePlace f h (relaAddress f d) (relaBytes f d) ≡ Nowhere) ⊎ (entryLimit < relaBytes f d / 24)) × (r ≡ refusal 7 0)
+    → ((tableBacking f h (relaAddress f d) (relaBytes f d) ≡ Nowhere) ⊎ (entryLimit < relaBytes f d / 24)) × (r ≡ refusal 7 0)
 unfolding relocationsOf
 relocations-row f h d e =
-    andThen-bad (backed 0 (tablePlace f h (relaAddress f d) (relaBytes f d))) _ e
-    (λ q. let b = backed-row 0 (tablePlace f h (relaAddress f d) (relaBytes f d)) q in (inl (b .0), b .1)) (λ _ _ q.
+    andThen-bad (backed 0 (tableBacking f h (relaAddress f d) (relaBytes f d))) _ e
+    (λ q. let b = backed-row 0 (tableBacking f h (relaAddress f d) (relaBytes f d)) q in (inl (b .0), b .1)) (λ _ _ q.
     andThen-bad (require (leb (relaBytes f d / 24) entryLimit) 7 0) _ q
     (λ q. let s = require-stopped (leb (relaBytes f d / 24) entryLimit) 7 0 q in (inr (leb-false (relaBytes f d / 24) entryLimit (s .0)), s .1))
     (λ _ _ q. absurd (let z : _≡_ {A = ℕ} 0 1 = cc in omega arith)))
 
 row-relocations : (f : List ℕ) (h : Headers) (d : Dynamic)
-    → (tablePlace f h (relaAddress f d) (relaBytes f d) ≡ Nowhere) ⊎ (entryLimit < relaBytes f d / 24) → relocationsOf f h d ≡ bad (refusal 7 0)
+    → (tableBacking f h (relaAddress f d) (relaBytes f d) ≡ Nowhere) ⊎ (entryLimit < relaBytes f d / 24) → relocationsOf f h d ≡ bad (refusal 7 0)
 unfolding relocationsOf
 row-relocations f h d (inl e) = rw e
-row-relocations f h d (inr l) = go (tablePlace f h (relaAddress f d) (relaBytes f d))
+row-relocations f h d (inr l) = go (tableBacking f h (relaAddress f d) (relaBytes f d))
   where
-    go : (p : Place) → andThen {B = Relocations} (backed 0 p) (λ at. andThen (require (leb (relaBytes f d / 24) entryLimit) 7 0) (λ _.
+    go : (p : Backing) → andThen {B = Relocations} (backed 0 p) (λ at. andThen (require (leb (relaBytes f d / 24) entryLimit) 7 0) (λ _.
         good (record { at = at; entries = relaBytes f d / 24 }))) ≡ bad (refusal 7 0)
     go Nowhere = refl
     go (At at) = rw (lt-leb (relaBytes f d / 24) entryLimit l)
 
 descriptors-row : {r : Refusal} (f : List ℕ) (h : Headers) (d : Dynamic) → descriptorsOf f h d ≡ bad r
-    → (tablePlace f h (descriptorAddress f d) (descriptorBytes f d) ≡ Nowhere) × (r ≡ refusal 7 1)
+    → (tableBacking f h (descriptorAddress f d) (descriptorBytes f d) ≡ Nowhere) × (r ≡ refusal 7 1)
 unfolding descriptorsOf
 descriptors-row f h d e =
-    andThen-bad (backed 1 (tablePlace f h (descriptorAddress f d) (descriptorBytes f d))) _ e
-    (backed-row 1 (tablePlace f h (descriptorAddress f d) (descriptorBytes f d)))
+    andThen-bad (backed 1 (tableBacking f h (descriptorAddress f d) (descriptorBytes f d))) _ e
+    (backed-row 1 (tableBacking f h (descriptorAddress f d) (descriptorBytes f d)))
     (λ _ _ q. absurd (let z : _≡_ {A = ℕ} 0 1 = cc in omega arith))
 
-row-descriptors : (f : List ℕ) (h : Headers) (d : Dynamic) → tablePlace f h (descriptorAddress f d) (descriptorBytes f d) ≡ Nowhere
+row-descriptors : (f : List ℕ) (h : Headers) (d : Dynamic) → tableBacking f h (descriptorAddress f d) (descriptorBytes f d) ≡ Nowhere
     → descriptorsOf f h d ≡ bad (refusal 7 1)
 unfolding descriptorsOf
 row-descriptors f h d e = rw e
@@ -134,24 +134,24 @@ row-descriptors f h d e = rw e
 abbrev pub EightOrNine : ℕ → Refusal → Type 0
 EightOrNine index r = (r ≡ refusal 8 index) ⊎ (r ≡ refusal 9 index)
 
-placed-refusal : {r : Refusal} (index end distance granules next : ℕ) → placed index end distance granules next ≡ bad r → EightOrNine index r
-unfolding placed
-placed-refusal index end distance granules next e =
+global-refusal : {r : Refusal} (index end distance granules next : ℕ) → globalAfter index end distance granules next ≡ bad r → EightOrNine index r
+unfolding globalAfter
+global-refusal index end distance granules next e =
     cond-bad (leb (end + granule * distance + granule * granules) addressLimit) _ (refusal 9 index) e
     (λ _ q. absurd (let z : _≡_ {A = ℕ} 0 1 = cc in omega arith)) (λ _ q. inr q)
 
 second-refusal : {r : Refusal} (index end distance : ℕ) (u : Uleb) → second index end distance u ≡ bad r → EightOrNine index r
 unfolding second
-second-refusal index end distance (number v next) e = placed-refusal index end distance (v + 1) next e
+second-refusal index end distance (number v next) e = global-refusal index end distance (v + 1) next e
 second-refusal index end distance malformed e = inl (cc)
 
 descriptor-refusal : {r : Refusal} (index : ℕ) (s : List ℕ) (end : ℕ) (u : Uleb) → descriptor index s end u ≡ bad r → EightOrNine index r
 unfolding descriptor
 descriptor-refusal {r} index s end (number v next) e = go (eqb (v % 8) 0) e
   where
-    go : (b : Bool) → cond b (second index end (v / 8) (ulebAt s next)) (placed index end (v / 8) (v % 8) next) ≡ bad r → EightOrNine index r
+    go : (b : Bool) → cond b (second index end (v / 8) (ulebAt s next)) (globalAfter index end (v / 8) (v % 8) next) ≡ bad r → EightOrNine index r
     go true q = second-refusal index end (v / 8) (ulebAt s next) q
-    go false q = placed-refusal index end (v / 8) (v % 8) next q
+    go false q = global-refusal index end (v / 8) (v % 8) next q
 descriptor-refusal index s end malformed e = inl (cc)
 
 pub step-refusal : {r : Refusal} (index : ℕ) (s : List ℕ) (c : Cursor) → stepAt index s c ≡ bad r → EightOrNine index r

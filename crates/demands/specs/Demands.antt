@@ -10,8 +10,8 @@ use Rattle.rules.specs.Outcome.{Outcome, good, bad}
 use Rattle.rules.specs.Limits.{entryLimit, globalLimit, granule}
 use Rattle.rules.specs.Bytes.{le}
 use Rattle.rules.specs.Headers.{headersOf}
-use Rattle.rules.specs.Segments.{headerAt, isLoad, loadsCheck, covers, backsAt, placeOf}
-use Rattle.rules.specs.Relocations.{placeAt, addendAt, live, symbolPlace, targetAt}
+use Rattle.rules.specs.Segments.{headerAt, isLoad, loadsCheck, covers, backsAt, backingOf}
+use Rattle.rules.specs.Relocations.{placeAt, addendAt, live, symbolBacking, targetAt}
 use Rattle.rules.specs.Examine.{moduleOf, factsOf, examinedOf}
 use Rattle.rules.specs.Load.{Loaded, loadOf, loaded, memoryAfter, planeAfter, imageOf, globalsIn, globalAt, endOf}
 use Rattle.rules.specs.Load.{Source, none, at, sourceOf, wordAt}
@@ -139,7 +139,7 @@ pub record Leaves (f : List ℕ) (bias n p : ℕ) (choices : List ℕ) (m : Modu
 pub record Idle (f : List ℕ) (h : Headers) : Type 0 where
   pub backed : (a n i : ℕ) → i < h .count
       → backsAt f h a n i ≡ (isLoad (headerAt f h i) && covers (headerAt f h i .vaddr) (headerAt f h i .filesz) a n)
-  pub symbol-backed : (n table : ℕ) → symbolPlace f h n (Value table) ≡ placeOf f h (table + 24 * n) 24
+  pub symbol-backed : (n table : ℕ) → symbolBacking f h n (Value table) ≡ backingOf f h (table + 24 * n) 24
 
 -- ---- demand 3: against the plain loader
 

@@ -12,15 +12,15 @@ use Rattle.rules.specs.Bytes.{le, part}
 use Rattle.rules.specs.First.{faultless}
 use Rattle.rules.specs.Memory.{bytesOf, signed}
 use Rattle.rules.specs.Headers.{headersOf}
-use Rattle.rules.specs.Segments.{headerAt, isLoad, loadsCheck, placeOf}
+use Rattle.rules.specs.Segments.{headerAt, isLoad, loadsCheck, backingOf}
 use Rattle.rules.specs.Dynamic.{dynamicOf, baseTags, entriesCheck, entryOf}
 use Rattle.rules.specs.Tables.{relocationsOf}
 use Rattle.rules.specs.Relocations.{relative, placeAt, kindAt, symbolAt, addendAt, relocationsCheck}
 use Rattle.rules.specs.Load.{memoryFits, loadsEnd}
 use Rattle.rules.specs.declared.Headers.{Headers}
 use Rattle.rules.specs.declared.Segment.{Segment}
-use Rattle.rules.specs.declared.Place.{Place}
-use Rattle.rules.specs.declared.Place.the-variants.{At, Nowhere}
+use Rattle.rules.specs.declared.Backing.{Backing}
+use Rattle.rules.specs.declared.Backing.the-variants.{At, Nowhere}
 use Rattle.rules.specs.declared.Dynamic.{Dynamic}
 use Rattle.rules.specs.declared.Entry.{Entry}
 use Rattle.rules.specs.declared.Entry.the-variants.{Absent, Value}
@@ -39,12 +39,12 @@ segmentsOf f h n zero = replicate n 0
 segmentsOf f h n (suc k) = storeLoad f (headerAt f h k) (segmentsOf f h n k)
 
 -- where the 24 bytes of symbol n stand in the file, by the entry of tag 6
-abbrev pub symbolEntry : List ℕ → Headers → Entry → ℕ → Place
+abbrev pub symbolEntry : List ℕ → Headers → Entry → ℕ → Backing
 symbolEntry f h Absent n = Nowhere
-symbolEntry f h (Value table) n = placeOf f h (table + 24 * n) 24
+symbolEntry f h (Value table) n = backingOf f h (table + 24 * n) 24
 
 -- S: bias + value; 0 where the symbol's section is 0
-abbrev pub symbolAddress : List ℕ → ℕ → Place → ℕ
+abbrev pub symbolAddress : List ℕ → ℕ → Backing → ℕ
 symbolAddress f bias Nowhere = 0
 symbolAddress f bias (At at) = cond (eqb (le 2 f (at + 6)) 0) 0 (bias + le 8 f (at + 8))
 

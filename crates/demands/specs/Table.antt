@@ -13,7 +13,7 @@ use Rattle.rules.specs.Bytes.{le}
 use Rattle.rules.specs.Headers.{sizeCheck, wrongByte, identificationCheck, goodHeader, headerCheck}
 use Rattle.rules.specs.Segments.{headerAt, badLoad, loadsCheck, inMemory}
 use Rattle.rules.specs.Dynamic.{isDynamicAt, dynamicIn, dynamicOf, knownTags, badEntry, partnerless, entriesCheck}
-use Rattle.rules.specs.Tables.{tablePlace, relaAddress, relaBytes, descriptorAddress, descriptorBytes, relocationsOf, descriptorsOf}
+use Rattle.rules.specs.Tables.{tableBacking, relaAddress, relaBytes, descriptorAddress, descriptorBytes, relocationsOf, descriptorsOf}
 use Rattle.rules.specs.Descriptors.{global, stepAt, tableStart, descriptorTable, globalsOf}
 use Rattle.rules.specs.Relocations.{targetIn, barred, badRelocation, relocationsIn, relocationsCheck}
 use Rattle.rules.specs.Load.{memoryFits, planeFits, loadsEnd, badAddress, addressesCheck, badChoice, choicesCheck}
@@ -21,7 +21,7 @@ use Rattle.rules.specs.declared.Refusal.{Refusal}
 use Rattle.rules.specs.declared.Headers.{Headers}
 use Rattle.rules.specs.declared.Dynamic.{Dynamic}
 use Rattle.rules.specs.declared.Entry.{Entry}
-use Rattle.rules.specs.declared.Place.the-variants.{Nowhere}
+use Rattle.rules.specs.declared.Backing.the-variants.{Nowhere}
 use Rattle.rules.specs.declared.Relocations.{Relocations}
 use Rattle.rules.specs.declared.Descriptors.{Descriptors}
 use Rattle.rules.specs.declared.Global.{Global}
@@ -208,9 +208,9 @@ pub record Table (f : List ℕ) : Type 0 where
   pub row-5 : (h : Headers) → Row (dynamicOf f h) (5 ∷ []) 5 (DynamicFault f h)
   pub row-6 : (d : Dynamic) → Row (entriesCheck knownTags f d) (6 ∷ []) 6 (EntryFault f d)
   pub row-7 : (h : Headers) (d : Dynamic) → Row (relocationsOf f h d) (7 ∷ []) 7 (λ i. (i ≡ 0)
-      × ((tablePlace f h (relaAddress f d) (relaBytes f d) ≡ Nowhere) ⊎ (entryLimit < relaBytes f d / 24)))
+      × ((tableBacking f h (relaAddress f d) (relaBytes f d) ≡ Nowhere) ⊎ (entryLimit < relaBytes f d / 24)))
   pub row-7-descriptors : (h : Headers) (d : Dynamic) → Row (descriptorsOf f h d) (7 ∷ []) 7 (λ i. (i ≡ 1)
-      × (tablePlace f h (descriptorAddress f d) (descriptorBytes f d) ≡ Nowhere))
+      × (tableBacking f h (descriptorAddress f d) (descriptorBytes f d) ≡ Nowhere))
   pub row-8 : (h : Headers) (t : Descriptors) → Row (globalsOf f h t) (8 ∷ 9 ∷ []) 8 (Unread f h (descriptorTable f t) 8)
   pub row-9 : (h : Headers) (t : Descriptors) → Row (globalsOf f h t) (8 ∷ 9 ∷ []) 9 (GlobalFault f h (descriptorTable f t))
   pub row-10 : (h : Headers) (symbols : Entry) (t : Relocations)

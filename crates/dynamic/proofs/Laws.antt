@@ -10,11 +10,11 @@ use native.Mathlib.Nat.{sub-zero}
 use borrow.Author.Tests.{leb-true, ltb-true, eqb-true, lt-ltb, le-ltb}
 use Rattle.rules.specs.Outcome.{refuse}
 use Rattle.rules.specs.First.{first}
-use Rattle.rules.specs.Segments.{backsAt, backing, placeOf, headerAt}
+use Rattle.rules.specs.Segments.{backsAt, backer, backingOf, headerAt}
 use Rattle.rules.specs.Dynamic.{goodSize, dynamicFrom, dynamicOf, dynamicIn}
-use Rattle.rules.specs.Tables.{tablePlace}
+use Rattle.rules.specs.Tables.{tableBacking}
 use Rattle.rules.specs.declared.Headers.{Headers}
-use Rattle.rules.specs.declared.Place.the-variants.{At, Nowhere}
+use Rattle.rules.specs.declared.Backing.the-variants.{At, Nowhere}
 use Rattle.rules.proofs.FirstLaws.{first-true}
 use Rattle.rules.proofs.OutcomeLaws.{and-left, and-right}
 use Rattle.headers.proofs.Laws.{backs-inside}
@@ -48,17 +48,17 @@ somewhere true x at h = refl
 somewhere false x at h = absurd (let z : _≡_ {A = ℕ} 0 1 = cc in omega arith)
 
 -- what is backed has at most as many bytes as a file
-pub backed-size : (f : List ℕ) (h : Headers) (a n at : ℕ) → placeOf f h a n ≡ At at → n ≤ 1048576
-unfolding placeOf backing backsAt
+pub backed-size : (f : List ℕ) (h : Headers) (a n at : ℕ) → backingOf f h a n ≡ At at → n ≤ 1048576
+unfolding backingOf backer backsAt
 backed-size f h a n at e =
     let l : first (backsAt f h a n) 0 (h .count) < h .count = ltb-true _ _ (somewhere _ _ at e) in
     let b = backs-inside a n (headerAt f h (first (backsAt f h a n) 0 (h .count))) (first-true (backsAt f h a n) (h .count) 0 (omega arith)) in
     omega arith
 
-pub table-size : (f : List ℕ) (h : Headers) (a n at : ℕ) → tablePlace f h a n ≡ At at → n ≤ 1048576
-unfolding tablePlace
+pub table-size : (f : List ℕ) (h : Headers) (a n at : ℕ) → tableBacking f h a n ≡ At at → n ≤ 1048576
+unfolding tableBacking
 table-size f h a n at e = go (eqb n 0) refl e
   where
-    go : (b : Bool) → eqb n 0 ≡ b → cond b (At 0) (placeOf f h a n) ≡ At at → n ≤ 1048576
+    go : (b : Bool) → eqb n 0 ≡ b → cond b (At 0) (backingOf f h a n) ≡ At at → n ≤ 1048576
     go true p q = omega (arith, eqb-true n 0 p)
     go false p q = backed-size f h a n at q

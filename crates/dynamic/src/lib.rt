@@ -3,7 +3,7 @@ ghost use mathlib.Core.Path.{_≡_};
 ghost use Prim.Native.Nat.{_-_, _≤_, _<_};
 ghost use Rattle.rules.specs.First.{faultless, someBelow};
 ghost use Rattle.rules.specs.Dynamic.{isDynamicAt, dynamicFrom, isNullAt, nullEntry, goodSize, dynamicAt, dynamicOf, tagAt, valueAt, knownTags, rowAt, allows, isRow, rowOf, hasTagAt, tagBefore, badEntry, hasTag, partnerless, entriesCheck, entryOf};
-ghost use Rattle.rules.specs.Tables.{orZero, tablePlace, relocationsOf, descriptorsOf};
+ghost use Rattle.rules.specs.Tables.{orZero, tableBacking, relocationsOf, descriptorsOf};
 ghost use Rattle.rules.specs.Answers.{ofChecked, ofDynamic, ofRelocations, ofDescriptors};
 use rules::Allowed;
 use rules::Checked;
@@ -14,7 +14,7 @@ use rules::DynamicAnswer;
 use rules::Entry;
 use rules::Headers;
 use rules::Known;
-use rules::Place;
+use rules::Backing;
 use rules::Refusal;
 use rules::Relocations;
 use rules::RelocationsAnswer;
@@ -104,7 +104,7 @@ const KNOWN: [Known; 13] = [
     },
 ];
 
-fn is_dynamic_at(f: &[u8], h: Headers, i: u16) -> bool
+fn is_dynamic_at(f: &[u8], h: Headers, i: u32) -> bool
     ensures { λ r. ⌜ r ≡ isDynamicAt (now (f .entry)) h i ⌝ }
 {
     let s = headers::header_at(f, h, i);
@@ -112,7 +112,7 @@ fn is_dynamic_at(f: &[u8], h: Headers, i: u16) -> bool
 }
 
 // The first PT_DYNAMIC from an index on, or the count.
-fn dynamic_from(f: &[u8], h: Headers, from: u16) -> u16
+fn dynamic_from(f: &[u8], h: Headers, from: u32) -> u32
     requires { ⌜ from ≤ h .count ⌝ }
     ensures { λ r. ⌜ r ≡ dynamicFrom (now (f .entry)) h from (h .count - from) ⌝ }
 {
@@ -125,14 +125,14 @@ fn dynamic_from(f: &[u8], h: Headers, from: u16) -> u16
     count
 }
 
-fn is_null_at(f: &[u8], at: u32, i: u16) -> bool
+fn is_null_at(f: &[u8], at: u32, i: u32) -> bool
     ensures { λ r. ⌜ r ≡ isNullAt (now (f .entry)) at i ⌝ }
 {
     reads::read64(f, at as usize + 16 * (i as usize)) == 0
 }
 
 // The first DT_NULL of n entries, or n.
-fn null_entry(f: &[u8], at: u32, n: u16) -> u16
+fn null_entry(f: &[u8], at: u32, n: u32) -> u32
     ensures { λ r. ⌜ r ≡ nullEntry (now (f .entry)) at n ⌝ }
 {
     for i in 0..n {
@@ -157,17 +157,17 @@ fn is_good_size(size: u64) -> bool
 }
 
 // Check 5, of a PT_DYNAMIC whose contents stand at a place of the file.
-fn dynamic_at(f: &[u8], i: u16, size: u64, place: Place) -> DynamicAnswer
+fn dynamic_at(f: &[u8], i: u32, size: u64, place: Backing) -> DynamicAnswer
     ensures { λ r. ⌜ ofDynamic r ≡ dynamicAt (now (f .entry)) i size place ⌝ }
 {
-    let Place::At(at) = place else {
+    let Backing::At(at) = place else {
         return DynamicAnswer::Refused(Refusal {
             number: 5,
             position: i as u64,
         });
     };
     if is_good_size(size) {
-        let n = (size / 16) as u16;
+        let n = (size / 16) as u32;
         let entries = null_entry(f, at, n);
         if entries < n {
             return DynamicAnswer::Found(Dynamic { at, entries });
@@ -205,7 +205,7 @@ pub fn find_dynamic(f: &[u8], h: Headers) -> DynamicAnswer
     let s = headers::header_at(f, h, one);
     let vaddr = s.vaddr;
     let filesz = s.filesz;
-    let place = headers::place_of(f, h, vaddr, filesz);
+    let place = headers::backing_of(f, h, vaddr, filesz);
     dynamic_at(f, one, filesz, place)
 }
 
@@ -248,26 +248,26 @@ fn row_of(tag: u64) -> usize
     ROWS
 }
 
-fn tag_at(f: &[u8], d: Dynamic, i: u16) -> u64
+fn tag_at(f: &[u8], d: Dynamic, i: u32) -> u64
     ensures { λ r. ⌜ r ≡ tagAt (now (f .entry)) d i ⌝ }
 {
     reads::read64(f, d.at as usize + 16 * (i as usize))
 }
 
-fn value_at(f: &[u8], d: Dynamic, i: u16) -> u64
+fn value_at(f: &[u8], d: Dynamic, i: u32) -> u64
     ensures { λ r. ⌜ r ≡ valueAt (now (f .entry)) d i ⌝ }
 {
     reads::read64(f, d.at as usize + 16 * (i as usize) + 8)
 }
 
-fn has_tag_at(f: &[u8], d: Dynamic, tag: u64, i: u16) -> bool
+fn has_tag_at(f: &[u8], d: Dynamic, tag: u64, i: u32) -> bool
     ensures { λ r. ⌜ r ≡ hasTagAt (now (f .entry)) d tag i ⌝ }
 {
     tag_at(f, d, i) == tag
 }
 
 // The first of the first n entries that has a tag, or n.
-fn tag_before(f: &[u8], d: Dynamic, tag: u64, n: u16) -> u16
+fn tag_before(f: &[u8], d: Dynamic, tag: u64, n: u32) -> u32
     ensures { λ r. ⌜ r ≡ tagBefore (now (f .entry)) d tag n ⌝ }
 {
     for i in 0..n {
@@ -279,7 +279,7 @@ fn tag_before(f: &[u8], d: Dynamic, tag: u64, n: u16) -> u16
 }
 
 // Check 6, of one entry: its value is not allowed, or an earlier entry has its tag.
-fn is_bad_entry(f: &[u8], d: Dynamic, i: u16) -> bool
+fn is_bad_entry(f: &[u8], d: Dynamic, i: u32) -> bool
     ensures { λ r. ⌜ r ≡ badEntry knownTags (now (f .entry)) d i ⌝ }
 {
     let tag = tag_at(f, d, i);
@@ -386,13 +386,13 @@ fn or_zero(e: Entry) -> u64
 }
 
 // Where a table is backed; one of 0 bytes is accepted at any address.
-fn table_place(f: &[u8], h: Headers, address: u64, bytes: u64) -> Place
-    ensures { λ r. ⌜ r ≡ tablePlace (now (f .entry)) h address bytes ⌝ }
+fn table_backing(f: &[u8], h: Headers, address: u64, bytes: u64) -> Backing
+    ensures { λ r. ⌜ r ≡ tableBacking (now (f .entry)) h address bytes ⌝ }
 {
     if bytes == 0 {
-        return Place::At(0);
+        return Backing::At(0);
     }
-    headers::place_of(f, h, address, bytes)
+    headers::backing_of(f, h, address, bytes)
 }
 
 // Check 7: the relocation table.
@@ -403,8 +403,8 @@ pub fn find_relocations(f: &[u8], h: Headers, d: Dynamic) -> RelocationsAnswer
     let address = or_zero(rela);
     let relasz = entry_of(f, d, DT_RELASZ);
     let bytes = or_zero(relasz);
-    let place = table_place(f, h, address, bytes);
-    let Place::At(at) = place else {
+    let place = table_backing(f, h, address, bytes);
+    let Backing::At(at) = place else {
         return RelocationsAnswer::Refused(Refusal {
             number: 7,
             position: 0,
@@ -419,7 +419,7 @@ pub fn find_relocations(f: &[u8], h: Headers, d: Dynamic) -> RelocationsAnswer
     }
     RelocationsAnswer::Found(Relocations {
         at,
-        entries: entries as u16,
+        entries: entries as u32,
     })
 }
 
@@ -431,8 +431,8 @@ pub fn find_descriptors(f: &[u8], h: Headers, d: Dynamic) -> DescriptorsAnswer
     let address = or_zero(globals);
     let globalssz = entry_of(f, d, DT_MEMTAG_GLOBALSSZ);
     let bytes = or_zero(globalssz);
-    let place = table_place(f, h, address, bytes);
-    let Place::At(at) = place else {
+    let place = table_backing(f, h, address, bytes);
+    let Backing::At(at) = place else {
         return DescriptorsAnswer::Refused(Refusal {
             number: 7,
             position: 1,

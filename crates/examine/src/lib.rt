@@ -51,7 +51,7 @@ fn switch_of(e: Entry) -> Switch
 }
 
 // The facts of a module whose words the walk has counted.
-pub fn facts_of(f: &[u8], m: Module, words: u16) -> Facts
+pub fn facts_of(f: &[u8], m: Module, words: u32) -> Facts
     requires { ⌜ words ≡ wordsOf (now f) (m .relocations) ⌝ }
     ensures { λ v. ⌜ v ≡ factsOf (now (f .entry)) m ⌝ }
 {

@@ -54,14 +54,14 @@ fn print_refusal(f: &[u8], r: Refusal)
 }
 
 // Written is the global of the index i.
-fn print_global(f: &[u8], m: Module, i: u16, g: Global)
+fn print_global(f: &[u8], m: Module, i: u32, g: Global)
     requires { ⌜ g ≡ globalAt (globalsIn (now f) m) i ⌝ }
 {
     print_pair(g.start, g.granules);
 }
 
 // A line for each global that the table lists; says how many lines.
-fn print_globals(f: &[u8], m: Module) -> u16
+fn print_globals(f: &[u8], m: Module) -> u32
     requires { ⌜ moduleOf (now f) ≡ good m ⌝ }
     ensures { λ r. ⌜ r ≡ length (globalsIn (now (f .entry)) m) ⌝ }
 {

@@ -6,22 +6,22 @@ use Rattle.rules.specs.First.{first, countBelow}
 use Rattle.rules.specs.Memory.{over, put}
 use Rattle.rules.specs.Headers.{sizeCheck, wrongByte, identificationCheck, goodHeader, headerCheck, headersOf}
 use Rattle.rules.specs.Segments.{headerAt, powerBelow, aligned, goodLoad, endBefore, badLoad, loadsCheck}
-use Rattle.rules.specs.Segments.{covers, backs, backsAt, backing, placeOf, holds, holdsAt, inMemory}
+use Rattle.rules.specs.Segments.{covers, backs, backsAt, backer, backingOf, holds, holdsAt, inMemory}
 use Rattle.rules.specs.Dynamic.{isDynamicAt, dynamicFrom, isNullAt, nullEntry, goodSize, dynamicAt, dynamicOf}
 use Rattle.rules.specs.Dynamic.{isRow, rowOf, hasTagAt, tagBefore, badEntry, hasTag, partnerless, entriesCheck, entryOf}
-use Rattle.rules.specs.Tables.{tablePlace, relocationsOf, descriptorsOf}
-use Rattle.rules.specs.Descriptors.{ulebIn, placed, second, descriptor, stepAt, globalsFrom, globalsOf}
-use Rattle.rules.specs.Relocations.{symbolPlace, symbolOf, targetOf, namedTarget, target, hasPlace, taken, placeFits, goodPlace}
+use Rattle.rules.specs.Tables.{tableBacking, relocationsOf, descriptorsOf}
+use Rattle.rules.specs.Descriptors.{ulebIn, globalAfter, second, descriptor, stepAt, globalsFrom, globalsOf}
+use Rattle.rules.specs.Relocations.{symbolBacking, symbolOf, targetOf, namedTarget, target, hasPlace, taken, placeFits, goodPlace}
 use Rattle.rules.specs.Relocations.{badRelocation, firstBad, relocationsIn, relocationsCheck, wordsOf}
 use Rattle.rules.specs.Examine.{moduleOf, factsOf, examinedOf}
 use Rattle.file_cases.specs.Cases.{FileCasesHold}
 
 pub file-cases-hold : FileCasesHold
 unfolding le first countBelow over put sizeCheck wrongByte identificationCheck goodHeader headerCheck headersOf
-    headerAt powerBelow aligned goodLoad endBefore badLoad loadsCheck covers backs backsAt backing placeOf holds holdsAt inMemory
+    headerAt powerBelow aligned goodLoad endBefore badLoad loadsCheck covers backs backsAt backer backingOf holds holdsAt inMemory
     isDynamicAt dynamicFrom isNullAt nullEntry goodSize dynamicAt dynamicOf isRow rowOf hasTagAt tagBefore badEntry hasTag partnerless
-    entriesCheck entryOf tablePlace relocationsOf descriptorsOf ulebIn placed second descriptor stepAt globalsFrom globalsOf moduleOf
-    symbolPlace symbolOf targetOf namedTarget target hasPlace taken placeFits goodPlace badRelocation firstBad relocationsIn
+    entriesCheck entryOf tableBacking relocationsOf descriptorsOf ulebIn globalAfter second descriptor stepAt globalsFrom globalsOf moduleOf
+    symbolBacking symbolOf targetOf namedTarget target hasPlace taken placeFits goodPlace badRelocation firstBad relocationsIn
     relocationsCheck wordsOf factsOf examinedOf
 file-cases-hold = record {
   read = refl;

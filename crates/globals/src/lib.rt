@@ -20,7 +20,7 @@ use rules::NEVER;
 use rules::Refusal;
 use rules::Step;
 
-const GLOBAL_LIMIT: u16 = 1024;
+const GLOBAL_LIMIT: u32 = 1024;
 
 // The least and the greatest choice.
 const CHOICE_LEAST: u8 = 1;
@@ -38,7 +38,7 @@ fn in_range(f: &[u8], h: Headers, g: Global) -> bool
 }
 
 // Check 14 of one choice, from the end of the global before and the choice before.
-fn is_bad_choice(i: u16, end: u64, last: u8, start: u64, choice: u8) -> bool
+fn is_bad_choice(i: u32, end: u64, last: u8, start: u64, choice: u8) -> bool
     ensures { λ r. ⌜ r ≡ badAfter i end last start choice ⌝ }
 {
     if choice < CHOICE_LEAST {
@@ -56,7 +56,7 @@ fn is_bad_choice(i: u16, end: u64, last: u8, start: u64, choice: u8) -> bool
     last == choice
 }
 
-fn outside(i: u16) -> CountedAnswer
+fn outside(i: u32) -> CountedAnswer
     ensures { λ r. ⌜ ofCounted r ≡ refuse 9 i ⌝ }
 {
     let r = Refusal {
@@ -66,7 +66,7 @@ fn outside(i: u16) -> CountedAnswer
     CountedAnswer::Refused(r)
 }
 
-fn found(globals: u16, fault: u16) -> CountedAnswer
+fn found(globals: u32, fault: u32) -> CountedAnswer
     ensures { λ r. ⌜ ofCounted r ≡ good (record { globals = globals; fault = fault }) ⌝ }
 {
     CountedAnswer::Found(Counted {
@@ -85,7 +85,7 @@ fn walk_table(f: &[u8], h: Headers, table: &[u8], choices: &[u8]) -> CountedAnsw
         end: 0,
     };
     let mut last: u8 = 0;
-    let mut fault: u16 = 0;
+    let mut fault: u32 = 0;
     for i in 0..GLOBAL_LIMIT {
         let step = c.step(table, i as u64);
         if let Step::Finished = step {

@@ -5,7 +5,7 @@ ghost use Prim.Native.Nat.{_+_, _<_};
 ghost use lib.Dec.{leb};
 ghost use lib.ListN.{getD};
 ghost use Rattle.rules.specs.Headers.{sizeCheck, identification, wrongByte, identificationCheck, goodHeader, headerCheck, headersOf};
-ghost use Rattle.rules.specs.Segments.{headerAt, isLoad, powerBelow, aligned, goodLoad, loadsCheck, backs, backsAt, placeIn, placeOf, holdsAt, inMemory};
+ghost use Rattle.rules.specs.Segments.{headerAt, isLoad, powerBelow, aligned, goodLoad, loadsCheck, backs, backsAt, backingIn, backingOf, holdsAt, inMemory};
 ghost use Rattle.rules.specs.Load.{loadsEnd};
 ghost use Rattle.rules.specs.Answers.{ofChecked, ofHeaders};
 use rules::Checked;
@@ -13,7 +13,7 @@ use rules::Headers;
 use rules::HeadersAnswer;
 use rules::MEMORY_LIMIT;
 use rules::NEVER;
-use rules::Place;
+use rules::Backing;
 use rules::Refusal;
 use rules::Segment;
 
@@ -163,7 +163,7 @@ pub fn read_headers(f: &[u8]) -> HeadersAnswer
 }
 
 // The program header of an index.
-pub fn header_at(f: &[u8], h: Headers, i: u16) -> Segment
+pub fn header_at(f: &[u8], h: Headers, i: u32) -> Segment
     ensures { λ r. ⌜ r ≡ headerAt (now (f .entry)) h i ⌝ }
 {
     let at = h.table as usize + HEADER_BYTES * (i as usize);
@@ -296,15 +296,15 @@ pub fn loads_end_within(f: &[u8], h: Headers, n: u64) -> bool
 }
 
 // Where bytes of a segment that backs them stand in the file.
-fn place_in(a: u64, n: u64, s: Segment) -> Place
+fn backing_in(a: u64, n: u64, s: Segment) -> Backing
     requires { ⌜ backs a n s ≡ true ⌝ }
-    ensures { λ r. ⌜ r ≡ placeIn s a ⌝ }
+    ensures { λ r. ⌜ r ≡ backingIn s a ⌝ }
 {
-    Place::At((s.offset + (a - s.vaddr)) as u32)
+    Backing::At((s.offset + (a - s.vaddr)) as u32)
 }
 
 // The n bytes from a are inside the file part of the segment of an index. Only the fields that are asked for are read.
-fn is_backing_at(f: &[u8], h: Headers, a: u64, n: u64, i: u16) -> bool
+fn is_backing_at(f: &[u8], h: Headers, a: u64, n: u64, i: u32) -> bool
     ensures { λ r. ⌜ r ≡ backsAt (now (f .entry)) h a n i ⌝ }
 {
     let at = h.table as usize + HEADER_BYTES * (i as usize);
@@ -319,21 +319,21 @@ fn is_backing_at(f: &[u8], h: Headers, a: u64, n: u64, i: u16) -> bool
 }
 
 // Where the n bytes from a are backed.
-pub fn place_of(f: &[u8], h: Headers, a: u64, n: u64) -> Place
-    ensures { λ r. ⌜ r ≡ placeOf (now (f .entry)) h a n ⌝ }
+pub fn backing_of(f: &[u8], h: Headers, a: u64, n: u64) -> Backing
+    ensures { λ r. ⌜ r ≡ backingOf (now (f .entry)) h a n ⌝ }
 {
     let count = h.count;
     for i in 0..count {
         if is_backing_at(f, h, a, n, i) {
             let s = header_at(f, h, i);
-            return place_in(a, n, s);
+            return backing_in(a, n, s);
         }
     }
-    Place::Nowhere
+    Backing::Nowhere
 }
 
 // The n bytes from a are inside the memory part of the segment of an index, a writable one where that is asked.
-fn is_holding_at(f: &[u8], h: Headers, write: bool, a: u64, n: u64, i: u16) -> bool
+fn is_holding_at(f: &[u8], h: Headers, write: bool, a: u64, n: u64, i: u32) -> bool
     ensures { λ r. ⌜ r ≡ holdsAt (now (f .entry)) h write a n i ⌝ }
 {
     let at = h.table as usize + HEADER_BYTES * (i as usize);

@@ -13,7 +13,7 @@ use borrow.Author.Tests.{eqb-true, eqb-false, leb-true}
 use Rattle.rules.specs.Outcome.{Outcome, good, bad, andThen, refusal}
 use Rattle.rules.specs.Limits.{granule, globalLimit, addressLimit}
 use Rattle.rules.specs.Segments.{loadsCheck, inMemory}
-use Rattle.rules.specs.Descriptors.{Uleb, number, malformed, Read, finished, global, ulebAt, placed, second, descriptor, stepAt, onGlobal, globalsFrom, globalsOf, descriptorTable, tableStart}
+use Rattle.rules.specs.Descriptors.{Uleb, number, malformed, Read, finished, global, ulebAt, globalAfter, second, descriptor, stepAt, onGlobal, globalsFrom, globalsOf, descriptorTable, tableStart}
 use Rattle.rules.specs.Load.{loadsEnd, endOf, globalAt}
 use Rattle.rules.specs.declared.Headers.{Headers}
 use Rattle.rules.specs.declared.Descriptors.{Descriptors}
@@ -36,26 +36,26 @@ abbrev pub Next : ℕ → Read → Type 0
 Next end finished = Unit
 Next end (global g c) = Follows end g c
 
-placed-next : (index end distance granules next : ℕ) (r : Read) → 1 ≤ granules → placed index end distance granules next ≡ good r → Next end r
-unfolding placed
-placed-next index end distance granules next r l h =
+global-next : (index end distance granules next : ℕ) (r : Read) → 1 ≤ granules → globalAfter index end distance granules next ≡ good r → Next end r
+unfolding globalAfter
+global-next index end distance granules next r l h =
     let q = cond-held _ (leb (end + granule * distance + granule * granules) addressLimit) _ h in
     good-same (λ r. Next end r) _ r (q .1) (record { starts = omega arith; aligned = omega arith; filled = l; ends = refl; limited = leb-true (end + granule * distance + granule * granules) addressLimit (q .0) })
 
 second-next : (index end distance : ℕ) (u : Uleb) (r : Read) → second index end distance u ≡ good r → Next end r
 unfolding second
-second-next index end distance (number v next) r h = placed-next index end distance (v + 1) next r (omega arith) h
+second-next index end distance (number v next) r h = global-next index end distance (v + 1) next r (omega arith) h
 second-next index end distance malformed r h = absurd (let z : _≡_ {A = ℕ} 0 1 = cc in omega arith)
 
 descriptor-next : (index : ℕ) (s : List ℕ) (end : ℕ) (u : Uleb) (r : Read) → descriptor index s end u ≡ good r → Next end r
 unfolding descriptor
 descriptor-next index s end (number v next) r h = go (eqb (v % 8) 0) refl h
   where
-    go : (b : Bool) → eqb (v % 8) 0 ≡ b → cond b (second index end (v / 8) (ulebAt s next)) (placed index end (v / 8) (v % 8) next) ≡ good r → Next end r
+    go : (b : Bool) → eqb (v % 8) 0 ≡ b → cond b (second index end (v / 8) (ulebAt s next)) (globalAfter index end (v / 8) (v % 8) next) ≡ good r → Next end r
     go true e h = second-next index end (v / 8) (ulebAt s next) r h
     go false e h =
         let ne = eqb-false (v % 8) 0 e in
-        placed-next index end (v / 8) (v % 8) next r (omega arith) h
+        global-next index end (v / 8) (v % 8) next r (omega arith) h
 descriptor-next index s end malformed r h = absurd (let z : _≡_ {A = ℕ} 0 1 = cc in omega arith)
 
 pub step-next : (index : ℕ) (s : List ℕ) (c : Cursor) (r : Read) → stepAt index s c ≡ good r → (c .end % 16 ≡ 0) × Next (c .end) r

@@ -56,8 +56,8 @@ fn read_chosen(f: &[u8], choices: &[u8]) -> ChosenAnswer
 fn check_lent(
     f: &[u8],
     m: Module,
-    outside: u16,
-    fault: u16,
+    outside: u32,
+    fault: u32,
     bias: u64,
     memory: u64,
     plane: u64,
@@ -83,7 +83,7 @@ fn check_lent(
 fn check_load(
     f: &[u8],
     m: Module,
-    fault: u16,
+    fault: u32,
     bias: u64,
     memory: u64,
     plane: u64,

@@ -6,12 +6,12 @@ use Rattle.rules.specs.First.{first, countBelow}
 use Rattle.rules.specs.Memory.{over, put, putWord}
 use Rattle.rules.specs.Headers.{sizeCheck, wrongByte, identificationCheck, goodHeader, headerCheck, headersOf}
 use Rattle.rules.specs.Segments.{headerAt, powerBelow, aligned, goodLoad, endBefore, badLoad, loadsCheck}
-use Rattle.rules.specs.Segments.{covers, backs, backsAt, backing, placeOf, holds, holdsAt, inMemory}
+use Rattle.rules.specs.Segments.{covers, backs, backsAt, backer, backingOf, holds, holdsAt, inMemory}
 use Rattle.rules.specs.Dynamic.{isDynamicAt, dynamicFrom, isNullAt, nullEntry, goodSize, dynamicAt, dynamicOf}
 use Rattle.rules.specs.Dynamic.{isRow, rowOf, hasTagAt, tagBefore, badEntry, hasTag, partnerless, entriesCheck, entryOf}
-use Rattle.rules.specs.Tables.{tablePlace, relocationsOf, descriptorsOf}
+use Rattle.rules.specs.Tables.{tableBacking, relocationsOf, descriptorsOf}
 use Rattle.rules.specs.Descriptors.{ulebIn, placed, second, descriptor, stepAt, globalsFrom, globalsOf}
-use Rattle.rules.specs.Relocations.{symbolPlace, symbolOf, targetOf, namedTarget, target, hasPlace, taken, placeFits, goodPlace}
+use Rattle.rules.specs.Relocations.{symbolBacking, symbolOf, targetOf, namedTarget, target, hasPlace, taken, placeFits, goodPlace}
 use Rattle.rules.specs.Relocations.{badRelocation, firstBad, relocationsIn, relocationsCheck, wordsOf}
 use Rattle.rules.specs.Examine.{moduleOf, factsOf}
 use Rattle.rules.specs.Load.{memoryFits, planeFits, loadsOver, badAddress, addressesCheck, badChoice, choicesCheck, tagged, writes, loadOf}
@@ -20,10 +20,10 @@ use Rattle.load_cases.specs.Cases.{LoadCasesHold}
 
 pub load-cases-hold : LoadCasesHold
 unfolding le first countBelow over put putWord sizeCheck wrongByte identificationCheck goodHeader headerCheck headersOf
-    headerAt powerBelow aligned goodLoad endBefore badLoad loadsCheck covers backs backsAt backing placeOf holds holdsAt inMemory
+    headerAt powerBelow aligned goodLoad endBefore badLoad loadsCheck covers backs backsAt backer backingOf holds holdsAt inMemory
     isDynamicAt dynamicFrom isNullAt nullEntry goodSize dynamicAt dynamicOf isRow rowOf hasTagAt tagBefore badEntry hasTag partnerless
-    entriesCheck entryOf tablePlace relocationsOf descriptorsOf ulebIn placed second descriptor stepAt globalsFrom globalsOf
-    symbolPlace symbolOf targetOf namedTarget target hasPlace taken placeFits goodPlace badRelocation firstBad relocationsIn
+    entriesCheck entryOf tableBacking relocationsOf descriptorsOf ulebIn placed second descriptor stepAt globalsFrom globalsOf
+    symbolBacking symbolOf targetOf namedTarget target hasPlace taken placeFits goodPlace badRelocation firstBad relocationsIn
     relocationsCheck wordsOf moduleOf factsOf memoryFits planeFits loadsOver badAddress addressesCheck badChoice choicesCheck
     tagged writes loadOf segmentsOf badBare bareWords plainOf
 load-cases-hold = record {

@@ -123,7 +123,7 @@ fn relocate_entry(
     r: Relocations,
     bias: u64,
     plane: &[u8],
-    i: u16,
+    i: u32,
     mem: &mut [u8],
 )
     requires { ⌜ badAddressIn (now f) h symbols r bias i ≡ false ⌝ }

@@ -3,7 +3,7 @@ ghost use mathlib.Core.Path.{_≡_};
 ghost use mathlib.Core.Bool.{cond, _&&_, _||_};
 ghost use Prim.Native.Nat.{_≤_};
 ghost use lib.Dec.{eqb};
-ghost use Rattle.rules.specs.Relocations.{abs64, globDat, placeAt, kindAt, symbolAt, addendAt, live, symbolPlace, symbolOf, targetOf, namedTarget, target, targetIn, barred, placeFits};
+ghost use Rattle.rules.specs.Relocations.{abs64, globDat, placeAt, kindAt, symbolAt, addendAt, live, symbolBacking, symbolOf, targetOf, namedTarget, target, targetIn, barred, placeFits};
 ghost use Rattle.rules.specs.Load.{addressOf, outOfRange};
 ghost use Rattle.rules.specs.Outcome.{refuse};
 ghost use Rattle.rules.specs.Answers.{ofWalk};
@@ -12,7 +12,7 @@ use rules::Address;
 use rules::Entry;
 use rules::Headers;
 use rules::MEMORY_LIMIT;
-use rules::Place;
+use rules::Backing;
 use rules::Refusal;
 use rules::Relocations;
 use rules::Symbol;
@@ -40,52 +40,52 @@ const SYMBOL_BYTES: u64 = 24;
 const SKIPPED: u64 = 1;
 
 // An entry's place.
-pub fn place_at(f: &[u8], r: Relocations, i: u16) -> u64
+pub fn place_at(f: &[u8], r: Relocations, i: u32) -> u64
     ensures { λ v. ⌜ v ≡ placeAt (now (f .entry)) r i ⌝ }
 {
     reads::read64(f, r.at as usize + 24 * (i as usize))
 }
 
 // An entry's kind.
-pub fn kind_at(f: &[u8], r: Relocations, i: u16) -> u32
+pub fn kind_at(f: &[u8], r: Relocations, i: u32) -> u32
     ensures { λ v. ⌜ v ≡ kindAt (now (f .entry)) r i ⌝ }
 {
     reads::read32(f, r.at as usize + 24 * (i as usize) + 8)
 }
 
 // An entry's symbol.
-pub fn symbol_at(f: &[u8], r: Relocations, i: u16) -> u32
+pub fn symbol_at(f: &[u8], r: Relocations, i: u32) -> u32
     ensures { λ v. ⌜ v ≡ symbolAt (now (f .entry)) r i ⌝ }
 {
     reads::read32(f, r.at as usize + 24 * (i as usize) + 12)
 }
 
 // An entry's addend, as its eight bytes.
-pub fn addend_at(f: &[u8], r: Relocations, i: u16) -> u64
+pub fn addend_at(f: &[u8], r: Relocations, i: u32) -> u64
     ensures { λ v. ⌜ v ≡ addendAt (now (f .entry)) r i ⌝ }
 {
     reads::read64(f, r.at as usize + 24 * (i as usize) + 16)
 }
 
 // An entry is not skipped.
-fn is_live(f: &[u8], r: Relocations, i: u16) -> bool
+fn is_live(f: &[u8], r: Relocations, i: u32) -> bool
     ensures { λ v. ⌜ v ≡ live (now (f .entry)) r i ⌝ }
 {
     kind_at(f, r, i) != 0
 }
 
 // Where the entry of symbol n is backed.
-fn symbol_place(f: &[u8], h: Headers, n: u32, symbols: Entry) -> Place
-    ensures { λ v. ⌜ v ≡ symbolPlace (now (f .entry)) h n symbols ⌝ }
+fn symbol_backing(f: &[u8], h: Headers, n: u32, symbols: Entry) -> Backing
+    ensures { λ v. ⌜ v ≡ symbolBacking (now (f .entry)) h n symbols ⌝ }
 {
     let Entry::Value(table) = symbols else {
-        return Place::Nowhere;
+        return Backing::Nowhere;
     };
     let offset = SYMBOL_BYTES * (n as u64);
     if reads::sum_within(table, offset, MEMORY_LIMIT) {
-        return headers::place_of(f, h, table + offset, SYMBOL_BYTES);
+        return headers::backing_of(f, h, table + offset, SYMBOL_BYTES);
     }
-    Place::Nowhere
+    Backing::Nowhere
 }
 
 // The symbol entry at a position of the file.
@@ -125,10 +125,10 @@ fn target_of(s: Symbol) -> Target
     Target::Barred
 }
 
-fn named_target(f: &[u8], p: Place) -> Target
+fn named_target(f: &[u8], p: Backing) -> Target
     ensures { λ v. ⌜ v ≡ namedTarget (now (f .entry)) p ⌝ }
 {
-    let Place::At(at) = p else {
+    let Backing::At(at) = p else {
         return Target::Barred;
     };
     let s = symbol_of(f, at);
@@ -159,7 +159,7 @@ pub fn find_target(f: &[u8], h: Headers, symbols: Entry, kind: u32, symbol: u32)
         if symbol == 0 {
             return Target::Barred;
         }
-        let p = symbol_place(f, h, symbol, symbols);
+        let p = symbol_backing(f, h, symbol, symbols);
         return named_target(f, p);
     }
     Target::Barred
@@ -187,7 +187,7 @@ fn place_fits(f: &[u8], h: Headers, p: u64) -> bool
 }
 
 // What an entry refers to.
-fn target_at(f: &[u8], h: Headers, symbols: Entry, r: Relocations, i: u16) -> Target
+fn target_at(f: &[u8], h: Headers, symbols: Entry, r: Relocations, i: u32) -> Target
     ensures { λ v. ⌜ v ≡ targetIn (now (f .entry)) h symbols r i ⌝ }
 {
     let kind = kind_at(f, r, i);
@@ -196,7 +196,7 @@ fn target_at(f: &[u8], h: Headers, symbols: Entry, r: Relocations, i: u16) -> Ta
 }
 
 // Checks 10 and 11 of one entry, but for its place's earlier entries: 0, 10 or 11.
-fn entry_fault(f: &[u8], h: Headers, r: Relocations, t: Target, i: u16) -> u8
+fn entry_fault(f: &[u8], h: Headers, r: Relocations, t: Target, i: u32) -> u8
     ensures { λ v. ⌜ v ≡ entryFault (now (f .entry)) h r t i ⌝ }
 {
     let kind = kind_at(f, r, i);
@@ -214,7 +214,7 @@ fn entry_fault(f: &[u8], h: Headers, r: Relocations, t: Target, i: u16) -> u8
 }
 
 // Check 13 of one entry.
-fn is_bad_address(f: &[u8], r: Relocations, bias: u64, t: Target, i: u16) -> bool
+fn is_bad_address(f: &[u8], r: Relocations, bias: u64, t: Target, i: u32) -> bool
     ensures { λ v. ⌜ v ≡ (live (now (f .entry)) r i && outOfRange (addressOf bias t (addendAt (now (f .entry)) r i))) ⌝ }
 {
     let kind = kind_at(f, r, i);
@@ -230,7 +230,7 @@ fn is_bad_address(f: &[u8], r: Relocations, bias: u64, t: Target, i: u16) -> boo
 }
 
 // What the search for a repeated place keeps of an entry.
-fn key_at(f: &[u8], r: Relocations, i: u16) -> u64
+fn key_at(f: &[u8], r: Relocations, i: u32) -> u64
     ensures { λ v. ⌜ v ≡ keyAt (now (f .entry)) r i ⌝ }
 {
     if is_live(f, r, i) {
@@ -248,13 +248,13 @@ fn search_from(key: u64, i: usize) -> usize
     0
 }
 
-fn one_if(b: bool) -> u16
+fn one_if(b: bool) -> u32
     ensures { λ v. ⌜ (v ≡ cond b 1 0) × (v ≤ 1) ⌝ }
 {
     if b { 1 } else { 0 }
 }
 
-fn refused(number: u8, i: u16) -> WalkAnswer
+fn refused(number: u8, i: u32) -> WalkAnswer
     ensures { λ v. ⌜ ofWalk v ≡ refuse number i ⌝ }
 {
     let r = Refusal {
@@ -279,9 +279,9 @@ pub fn check_relocations(
     let n = r.entries;
     // The places of the entries so far.
     let mut keys = [0u64; 1024];
-    let mut words: u16 = 0;
-    let mut outside: u16 = 0;
-    let mut i: u16 = 0;
+    let mut words: u32 = 0;
+    let mut outside: u32 = 0;
+    let mut i: u32 = 0;
     'entries: while i < n {
         let t = target_at(f, h, symbols, r, i);
         let number = entry_fault(f, h, r, t, i);

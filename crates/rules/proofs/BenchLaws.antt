@@ -1,11 +1,11 @@
 -- The marked rows of the bench sheet hold by computation.
 -- Assumes nothing.
 use mathlib.Core.Path.{refl}
-use Rattle.rules.specs.Descriptors.{stepAt, descriptor, second, placed, ulebIn}
-use Rattle.rules.specs.Load.{tagged}
+use Rattle.rules.specs.Descriptors.{stepAt, descriptor, second, globalAfter, ulebIn}
+use Rattle.rules.specs.Plane.{tagged}
 use Rattle.rules.specs.Memory.{put, over}
 use Rattle.rules.specs.Bench.{BenchHolds}
 
 pub bench : BenchHolds
-unfolding stepAt descriptor second placed ulebIn tagged put over
+unfolding stepAt descriptor second globalAfter ulebIn tagged put over
 bench = refl

@@ -7,7 +7,7 @@ use lib.ListN.{length}
 use lib.IntN.{ℤ}
 use Rattle.rules.specs.Outcome.{Outcome, good, bad}
 use Rattle.rules.specs.Descriptors.{Read, finished, global}
-use Rattle.rules.specs.Load.{outOfRange, natural}
+use Rattle.rules.specs.Addresses.{outOfRange, natural}
 use Rattle.rules.specs.declared.Headers.{Headers}
 use Rattle.rules.specs.declared.Dynamic.{Dynamic}
 use Rattle.rules.specs.declared.Relocations.{Relocations}
@@ -29,17 +29,8 @@ use Rattle.rules.specs.declared.Step.{Step}
 use Rattle.rules.specs.declared.Step.the-variants as step
 use Rattle.rules.specs.declared.GlobalsAnswer.{GlobalsAnswer}
 use Rattle.rules.specs.declared.GlobalsAnswer.the-variants as globals
-use Rattle.rules.specs.declared.Counted.{Counted}
-use Rattle.rules.specs.declared.CountedAnswer.{CountedAnswer}
-use Rattle.rules.specs.declared.CountedAnswer.the-variants as counted
-use Rattle.rules.specs.declared.Parts.{Parts}
-use Rattle.rules.specs.declared.PartsAnswer.{PartsAnswer}
-use Rattle.rules.specs.declared.PartsAnswer.the-variants as parts
 use Rattle.rules.specs.declared.ModuleAnswer.{ModuleAnswer}
 use Rattle.rules.specs.declared.ModuleAnswer.the-variants as module-answer
-use Rattle.rules.specs.declared.Chosen.{Chosen}
-use Rattle.rules.specs.declared.ChosenAnswer.{ChosenAnswer}
-use Rattle.rules.specs.declared.ChosenAnswer.the-variants as chosen
 use Rattle.rules.specs.declared.Answer.{Answer}
 use Rattle.rules.specs.declared.Answer.the-variants as answer
 use Rattle.rules.specs.declared.Walked.{Walked}
@@ -82,21 +73,9 @@ abbrev pub countOf : Outcome (List Global) → Outcome ℕ
 countOf (good gs) = good (length gs)
 countOf (bad r) = bad r
 
-abbrev pub ofCounted : CountedAnswer → Outcome Counted
-ofCounted (counted.Found n) = good n
-ofCounted (counted.Refused r) = bad r
-
-abbrev pub ofParts : PartsAnswer → Outcome Parts
-ofParts (parts.Found p) = good p
-ofParts (parts.Refused r) = bad r
-
 abbrev pub ofModule : ModuleAnswer → Outcome Module
 ofModule (module-answer.Found m) = good m
 ofModule (module-answer.Refused r) = bad r
-
-abbrev pub ofChosen : ChosenAnswer → Outcome Chosen
-ofChosen (chosen.Found c) = good c
-ofChosen (chosen.Refused r) = bad r
 
 abbrev pub ofAnswer : Answer → Outcome Facts
 ofAnswer (answer.Taken a) = good a

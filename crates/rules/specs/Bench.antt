@@ -6,7 +6,8 @@ use mathlib.Core.Path.{_≡_}
 use Rattle.rules.specs.Outcome.{Outcome, good, refuse}
 use Rattle.rules.specs.Limits.{granule}
 use Rattle.rules.specs.Descriptors.{Read, global, stepAt, tableStart}
-use Rattle.rules.specs.Load.{planeOf, wordOf}
+use Rattle.rules.specs.Plane.{planeOf}
+use Rattle.rules.specs.Words.{wordOf}
 use Rattle.rules.specs.declared.Cursor.{Cursor}
 use Rattle.rules.specs.declared.Global.{Global}
 use Rattle.rules.specs.declared.Target.the-variants.{Base}

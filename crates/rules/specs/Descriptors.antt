@@ -5,7 +5,7 @@ use mathlib.Core.Bool.{false, cond}
 use mathlib.Core.List.{List, [], _∷_}
 use lib.ListN.{length, getD}
 use lib.Dec.{ltb, leb, eqb}
-use Rattle.rules.specs.Outcome.{Outcome, good, refuse, andThen}
+use Rattle.rules.specs.Outcome.{Outcome, good, bad, refuse, andThen}
 use Rattle.rules.specs.Limits.{addressLimit, globalLimit, granule}
 use Rattle.rules.specs.Bytes.{part}
 use Rattle.rules.specs.Segments.{inMemory}
@@ -13,6 +13,7 @@ use Rattle.rules.specs.declared.Headers.{Headers}
 use Rattle.rules.specs.declared.Descriptors.{Descriptors}
 use Rattle.rules.specs.declared.Global.{Global}
 use Rattle.rules.specs.declared.Cursor.{Cursor}
+use Rattle.rules.specs.declared.Reading.{Reading}
 
 -- a ULEB128 number with the position after it, or none
 pub data Uleb : Type 0 where
@@ -49,8 +50,8 @@ pub data Read : Type 0 where
   global : Global → Cursor → Read
 
 -- a global of so many granules that begins distance granules after the last end; refused where it ends above 2^48
-unfoldable pub placed : ℕ → ℕ → ℕ → ℕ → ℕ → Outcome Read
-placed index end distance granules next =
+unfoldable pub globalAfter : ℕ → ℕ → ℕ → ℕ → ℕ → Outcome Read
+globalAfter index end distance granules next =
     cond (leb (end + granule * distance + granule * granules) addressLimit)
     (good (global (record { start = end + granule * distance; granules = granules })
     (record { position = next; end = end + granule * distance + granule * granules })))
@@ -58,13 +59,13 @@ placed index end distance granules next =
 
 -- a second number: the size is that number plus 1
 unfoldable pub second : ℕ → ℕ → ℕ → Uleb → Outcome Read
-second index end distance (number v next) = placed index end distance (v + 1) next
+second index end distance (number v next) = globalAfter index end distance (v + 1) next
 second index end distance malformed = refuse 8 index
 
 -- the first number: its low three bits are the size, or 0 where a second number follows; the rest is the distance
 unfoldable pub descriptor : ℕ → List ℕ → ℕ → Uleb → Outcome Read
 descriptor index s end (number v next) =
-    cond (eqb (v % 8) 0) (second index end (v / 8) (ulebAt s next)) (placed index end (v / 8) (v % 8) next)
+    cond (eqb (v % 8) 0) (second index end (v / 8) (ulebAt s next)) (globalAfter index end (v / 8) (v % 8) next)
 descriptor index s end malformed = refuse 8 index
 
 -- one descriptor at a cursor, called alone, with the index to report: the tests in their order
@@ -77,6 +78,12 @@ stepAt index s c =
     (refuse 9 index))
     (refuse 9 index))
     (refuse 8 index)
+
+-- a global and the cursor after it as plain numbers; no granules where none was read
+abbrev pub readingOf : Outcome Read → Reading
+readingOf (good finished) = record { start = 0; granules = 0; position = 0; end = 0 }
+readingOf (good (global g c)) = record { start = g .start; granules = g .granules; position = c .position; end = c .end }
+readingOf (bad r) = record { start = 0; granules = 0; position = 0; end = 0 }
 
 -- the table's end is the end of the globals
 abbrev pub onGlobal : Read → (Global → Cursor → Outcome (List Global)) → Outcome (List Global)

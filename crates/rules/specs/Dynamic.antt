@@ -9,11 +9,11 @@ use Rattle.rules.specs.Outcome.{Outcome, good, refuse, andThen, require}
 use Rattle.rules.specs.Limits.{dynamicLimit}
 use Rattle.rules.specs.Bytes.{le}
 use Rattle.rules.specs.First.{first, someBelow, faultless}
-use Rattle.rules.specs.Segments.{headerAt, isDynamic, placeOf}
+use Rattle.rules.specs.Segments.{headerAt, isDynamic, backingOf}
 use Rattle.rules.specs.declared.Headers.{Headers}
 use Rattle.rules.specs.declared.Segment.{Segment}
-use Rattle.rules.specs.declared.Place.{Place}
-use Rattle.rules.specs.declared.Place.the-variants.{At, Nowhere}
+use Rattle.rules.specs.declared.Backing.{Backing}
+use Rattle.rules.specs.declared.Backing.the-variants.{At, Nowhere}
 use Rattle.rules.specs.declared.Dynamic.{Dynamic}
 use Rattle.rules.specs.declared.Entry.{Entry}
 use Rattle.rules.specs.declared.Entry.the-variants as entry
@@ -28,7 +28,7 @@ isDynamicAt f h i = isDynamic (headerAt f h i)
 unfoldable pub dynamicFrom : List ℕ → Headers → ℕ → ℕ → ℕ
 dynamicFrom f h i n = first (isDynamicAt f h) i n
 
--- the first entry with tag 0 of the n that stand at a place of the file
+-- the first entry with tag 0 of the n that stand at a position of the file
 unfoldable pub isNullAt : List ℕ → ℕ → ℕ → Bool
 isNullAt f at i = eqb (le 8 f (at + 16 * i)) 0
 
@@ -39,8 +39,8 @@ nullEntry f at n = first (isNullAt f at) 0 n
 unfoldable pub goodSize : ℕ → Bool
 goodSize size = eqb (size % 16) 0 && (leb 16 size && leb size dynamicLimit)
 
--- a PT_DYNAMIC of index i and so many bytes, whose contents stand at a place of the file
-unfoldable pub dynamicAt : List ℕ → ℕ → ℕ → Place → Outcome Dynamic
+-- a PT_DYNAMIC of index i and so many bytes, whose contents are backed there in the file
+unfoldable pub dynamicAt : List ℕ → ℕ → ℕ → Backing → Outcome Dynamic
 dynamicAt f i size Nowhere = refuse 5 i
 dynamicAt f i size (At at) =
     cond (goodSize size && ltb (nullEntry f at (size / 16)) (size / 16))
@@ -55,7 +55,7 @@ secondDynamic f h = dynamicFrom f h (firstDynamic f h + 1) (h .count - (firstDyn
 
 -- its contents are those at its vaddr
 abbrev pub dynamicIn : List ℕ → Headers → ℕ → Segment → Outcome Dynamic
-dynamicIn f h i s = dynamicAt f i (s .filesz) (placeOf f h (s .vaddr) (s .filesz))
+dynamicIn f h i s = dynamicAt f i (s .filesz) (backingOf f h (s .vaddr) (s .filesz))
 
 -- check 5: none; else two or more; else a bad one
 unfoldable pub dynamicOf : List ℕ → Headers → Outcome Dynamic
@@ -71,25 +71,66 @@ tagAt f d i = le 8 f (d .at + 16 * i)
 abbrev pub valueAt : List ℕ → Dynamic → ℕ → ℕ
 valueAt f d i = le 8 f (d .at + 16 * i + 8)
 
--- the tags we know; rows of one group are partners, and REL, JMPREL and RELR are never allowed
+-- the tags of ELF64 that we know: the symbol table, RELA; REL, JMPREL and RELR
+abbrev pub symtab : ℕ
+symtab = 6
+
+abbrev pub syment : ℕ
+syment = 11
+
+abbrev pub rela : ℕ
+rela = 7
+
+abbrev pub relasz : ℕ
+relasz = 8
+
+abbrev pub relaent : ℕ
+relaent = 9
+
+abbrev pub rel : ℕ
+rel = 17
+
+abbrev pub jmprel : ℕ
+jmprel = 23
+
+abbrev pub relr : ℕ
+relr = 36
+
+-- and of the Memtag ABI: mode, heap, stack, and the descriptor table's address and bytes
+abbrev pub memtagMode : ℕ
+memtagMode = 0x70000009
+
+abbrev pub memtagHeap : ℕ
+memtagHeap = 0x7000000b
+
+abbrev pub memtagStack : ℕ
+memtagStack = 0x7000000c
+
+abbrev pub memtagGlobals : ℕ
+memtagGlobals = 0x7000000d
+
+abbrev pub memtagGlobalsSize : ℕ
+memtagGlobalsSize = 0x7000000f
+
+-- a row of the table of known tags; rows of one group are partners, and a group goes by its first tag
 abbrev pub row : ℕ → ℕ → Allowed → Known
 row tag group allowed = record { tag = tag; group = group; allowed = allowed }
 
--- the tags of ELF64
+-- the rows of ELF64; REL, JMPREL and RELR are never allowed
 abbrev pub baseTags : List Known
 baseTags =
-    row 6 6 Any ∷ row 11 6 Exactly24
-    ∷ row 7 7 Any ∷ row 8 7 Multiple24 ∷ row 9 7 Exactly24
-    ∷ row 17 17 Never ∷ row 23 23 Never ∷ row 36 36 Never ∷ []
+    row symtab symtab Any ∷ row syment symtab Exactly24
+    ∷ row rela rela Any ∷ row relasz rela Multiple24 ∷ row relaent rela Exactly24
+    ∷ row rel rel Never ∷ row jmprel jmprel Never ∷ row relr relr Never ∷ []
 
--- and the five of the Memtag ABI: mode, heap, stack, and the descriptor table's address and bytes
+-- and the five of the Memtag ABI
 abbrev pub knownTags : List Known
 knownTags =
     baseTags
-    ++ (row 0x70000009 0x70000009 Flag
-    ∷ row 0x7000000b 0x7000000b Flag
-    ∷ row 0x7000000c 0x7000000c Flag
-    ∷ row 0x7000000d 0x7000000d Any ∷ row 0x7000000f 0x7000000d Any ∷ [])
+    ++ (row memtagMode memtagMode Flag
+    ∷ row memtagHeap memtagHeap Flag
+    ∷ row memtagStack memtagStack Flag
+    ∷ row memtagGlobals memtagGlobals Any ∷ row memtagGlobalsSize memtagGlobals Any ∷ [])
 
 abbrev pub rowAt : List Known → ℕ → Known
 rowAt known r = getD known r (row 0 0 Any)

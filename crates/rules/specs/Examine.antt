@@ -1,16 +1,13 @@
--- The reader as a whole (checks 1 to 9), and examine (checks 1 to 11 and the facts).
+-- The facts of a module; examine: checks 1 to 11, and the facts.
 -- Assumes nothing.
 use Prim.Native.Nat.{ℕ}
 use mathlib.Core.Bool.{cond}
-use mathlib.Core.List.{List}
-use lib.ListN.{length}
+use mathlib.Core.List.{List, [], _∷_, _++_}
 use lib.Dec.{eqb}
-use Rattle.rules.specs.Outcome.{Outcome, good, andThen}
-use Rattle.rules.specs.Headers.{headersOf}
-use Rattle.rules.specs.Segments.{loadsCheck}
-use Rattle.rules.specs.Dynamic.{dynamicOf, knownTags, entriesCheck, entryOf}
-use Rattle.rules.specs.Tables.{relocationsOf, descriptorsOf}
-use Rattle.rules.specs.Descriptors.{globalsOf}
+use Rattle.rules.specs.Outcome.{Outcome}
+use Rattle.rules.specs.Checks.{Check, checked}
+use Rattle.rules.specs.Dynamic.{memtagMode, memtagHeap, memtagStack, entryOf}
+use Rattle.rules.specs.Reader.{theModule, readerChecks}
 use Rattle.rules.specs.Relocations.{relocationsCheck, wordsOf}
 use Rattle.rules.specs.declared.Entry.{Entry}
 use Rattle.rules.specs.declared.Entry.the-variants as entry
@@ -20,18 +17,6 @@ use Rattle.rules.specs.declared.Mode.the-variants as mode
 use Rattle.rules.specs.declared.Switch.{Switch}
 use Rattle.rules.specs.declared.Switch.the-variants as switch
 use Rattle.rules.specs.declared.Facts.{Facts}
-
--- checks 1 to 9 in their order
-unfoldable pub moduleOf : List ℕ → Outcome Module
-moduleOf f =
-    andThen (headersOf f) (λ h.
-    andThen (loadsCheck f h) (λ _.
-    andThen (dynamicOf f h) (λ d.
-    andThen (entriesCheck knownTags f d) (λ _.
-    andThen (relocationsOf f h d) (λ r.
-    andThen (descriptorsOf f h d) (λ t.
-    andThen (globalsOf f h t) (λ gs.
-    good (record { headers = h; dynamic = d; relocations = r; descriptors = t; globals = length gs }))))))))
 
 -- MEMTAG_MODE: 0 synchronous, 1 asynchronous
 abbrev pub modeOf : Entry → Mode
@@ -46,16 +31,21 @@ switchOf (entry.Value v) = cond (eqb v 0) switch.Off switch.On
 -- the facts of a module
 unfoldable pub factsOf : List ℕ → Module → Facts
 factsOf f m = record {
-  mode = modeOf (entryOf f (m .dynamic) 0x70000009);
-  heap = switchOf (entryOf f (m .dynamic) 0x7000000b);
-  stack = switchOf (entryOf f (m .dynamic) 0x7000000c);
+  mode = modeOf (entryOf f (m .dynamic) memtagMode);
+  heap = switchOf (entryOf f (m .dynamic) memtagHeap);
+  stack = switchOf (entryOf f (m .dynamic) memtagStack);
   globals = m .globals;
-  words = wordsOf f (m .relocations);
+  words = wordsOf f m;
 }
 
--- checks 1 to 11 in their order, and the facts
+-- the checks of a module that are made of the file alone: 10 and 11, one walk
+abbrev pub moduleChecks : List ℕ → Module → List Check
+moduleChecks f m = relocationsCheck f m ∷ []
+
+-- checks 1 to 11 in their order
+abbrev pub examineChecks : List ℕ → List Check
+examineChecks f = readerChecks f ++ moduleChecks f (theModule f)
+
+-- the facts of a file that passes them
 unfoldable pub examinedOf : List ℕ → Outcome Facts
-examinedOf f =
-    andThen (moduleOf f) (λ m.
-    andThen (relocationsCheck f (m .headers) (m .dynamic) (m .relocations)) (λ _.
-    good (factsOf f m)))
+examinedOf f = checked (examineChecks f) (factsOf f (theModule f))

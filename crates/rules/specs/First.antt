@@ -19,10 +19,14 @@ unfoldable pub countBelow : (ℕ → Bool) → ℕ → ℕ
 countBelow f zero = 0
 countBelow f (suc n) = countBelow f n + cond (f n) 1 0
 
--- no fault where the lowest faulty index is n, the end; else the number with that index
-abbrev pub faultAt : ℕ → ℕ → ℕ → Outcome (Unit {0})
-faultAt number n lowest = cond (eqb lowest n) (good tt) (refuse number lowest)
+-- no fault where the lowest faulty index is n, the end; else the number with the position of that index
+abbrev pub faultAt : ℕ → (ℕ → ℕ) → ℕ → ℕ → Outcome (Unit {0})
+faultAt number position n lowest = cond (eqb lowest n) (good tt) (refuse number (position lowest))
 
--- no fault at the indices below n; else the number with the lowest faulty index
+-- no fault at the indices below n; else the number with the position of the lowest faulty index
+abbrev pub faultsAt : ℕ → (ℕ → ℕ) → (ℕ → Bool) → ℕ → Outcome (Unit {0})
+faultsAt number position fault n = faultAt number position n (first fault 0 n)
+
+-- where an index is its own position
 abbrev pub faultless : ℕ → (ℕ → Bool) → ℕ → Outcome (Unit {0})
-faultless number fault n = faultAt number n (first fault 0 n)
+faultless number fault n = faultsAt number (λ i. i) fault n

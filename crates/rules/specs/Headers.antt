@@ -5,7 +5,8 @@ use mathlib.Core.Bool.{Bool, not, _&&_}
 use mathlib.Core.List.{List, [], _∷_}
 use lib.ListN.{length, getD}
 use lib.Dec.{leb, eqb}
-use Rattle.rules.specs.Outcome.{Outcome, good, andThen, require}
+use Rattle.rules.specs.Outcome.{Outcome, require}
+use Rattle.rules.specs.Checks.{Check, checked}
 use Rattle.rules.specs.Limits.{fileLeast, fileLimit, headerLimit}
 use Rattle.rules.specs.Bytes.{le}
 use Rattle.rules.specs.First.{faultless}
@@ -39,10 +40,13 @@ unfoldable pub headerCheck : List ℕ → Outcome (Unit {0})
 headerCheck f =
     require (goodHeader (length f) (le 2 f 16) (le 2 f 18) (le 4 f 20) (le 2 f 54) (le 2 f 56) (le 8 f 32)) 3 0
 
--- checks 1 to 3 in their order, and where the program headers are
+-- checks 1 to 3 in their order
+abbrev pub headerChecks : List ℕ → List Check
+headerChecks f = sizeCheck f ∷ identificationCheck f ∷ headerCheck f ∷ []
+
+-- and where the program headers are
+abbrev pub theHeaders : List ℕ → Headers
+theHeaders f = record { table = le 8 f 32; count = le 2 f 56 }
+
 unfoldable pub headersOf : List ℕ → Outcome Headers
-headersOf f =
-    andThen (sizeCheck f) (λ _.
-    andThen (identificationCheck f) (λ _.
-    andThen (headerCheck f) (λ _.
-    good (record { table = le 8 f 32; count = le 2 f 56 }))))
+headersOf f = checked (headerChecks f) (theHeaders f)

@@ -1,4 +1,5 @@
 pub mod Outcome
+pub mod Checks
 pub mod Limits
 pub mod Bytes
 pub mod First
@@ -7,10 +8,17 @@ pub mod Segments
 pub mod Dynamic
 pub mod Tables
 pub mod Descriptors
+pub mod Reader
 pub mod Relocations
 pub mod Examine
-pub mod Answers
+pub mod Lending
+pub mod Addresses
+pub mod Choices
 pub mod Memory
+pub mod Image
+pub mod Plane
+pub mod Words
 pub mod Load
+pub mod Answers
 pub mod Numbers
 pub mod Bench

@@ -36,3 +36,7 @@ addressLimit = 2 ^ 48
 -- bytes of a granule
 abbrev pub granule : ℕ
 granule = 16
+
+-- the bias is a multiple of this (check 12)
+abbrev pub page : ℕ
+page = 4096

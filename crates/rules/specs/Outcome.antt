@@ -25,6 +25,11 @@ abbrev pub found : {A : Type 0} → A → Outcome A → A
 found other (good a) = a
 found other (bad r) = other
 
+-- a check that finds something: does it pass
+abbrev pub passed : {A : Type 0} → Outcome A → Outcome (Unit {0})
+passed (good a) = good tt
+passed (bad r) = bad r
+
 -- a test, refused with a number and position where it does not hold
 abbrev pub require : Bool → ℕ → ℕ → Outcome (Unit {0})
 require test number position = cond test (good tt) (refuse number position)

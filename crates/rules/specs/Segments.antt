@@ -11,8 +11,8 @@ use Rattle.rules.specs.Bytes.{le}
 use Rattle.rules.specs.First.{first, someBelow, faultless}
 use Rattle.rules.specs.declared.Headers.{Headers}
 use Rattle.rules.specs.declared.Segment.{Segment}
-use Rattle.rules.specs.declared.Place.{Place}
-use Rattle.rules.specs.declared.Place.the-variants.{At, Nowhere}
+use Rattle.rules.specs.declared.Backing.{Backing}
+use Rattle.rules.specs.declared.Backing.the-variants.{At, Nowhere}
 
 -- the program header of index i
 unfoldable pub headerAt : List ℕ → Headers → ℕ → Segment
@@ -61,6 +61,10 @@ unfoldable pub endBefore : List ℕ → Headers → ℕ → ℕ
 endBefore f h zero = 0
 endBefore f h (suc i) = cond (isLoad (headerAt f h i)) (headerAt f h i .vaddr + headerAt f h i .memsz) (endBefore f h i)
 
+-- the end of the last PT_LOAD
+abbrev pub loadsEnd : List ℕ → Headers → ℕ
+loadsEnd f h = endBefore f h (h .count)
+
 -- check 4: a bad PT_LOAD
 unfoldable pub badLoad : List ℕ → Headers → ℕ → Bool
 badLoad f h i = isLoad (headerAt f h i) && not (goodLoad (length f) (endBefore f h i) (headerAt f h i))
@@ -77,17 +81,18 @@ unfoldable pub backs : ℕ → ℕ → Segment → Bool
 backs a n s = isLoad s && (covers (s .vaddr) (s .filesz) a n && leb (s .offset + s .filesz) fileLimit)
 
 -- where the n bytes from a are backed, in the file
-abbrev pub placeIn : Segment → ℕ → Place
-placeIn s a = At (s .offset + (a - s .vaddr))
+abbrev pub backingIn : Segment → ℕ → Backing
+backingIn s a = At (s .offset + (a - s .vaddr))
 
 unfoldable pub backsAt : List ℕ → Headers → ℕ → ℕ → ℕ → Bool
 backsAt f h a n i = backs a n (headerAt f h i)
 
-unfoldable pub backing : List ℕ → Headers → ℕ → ℕ → ℕ
-backing f h a n = first (backsAt f h a n) 0 (h .count)
+-- the first PT_LOAD that backs them, or how many headers there are
+unfoldable pub backer : List ℕ → Headers → ℕ → ℕ → ℕ
+backer f h a n = first (backsAt f h a n) 0 (h .count)
 
-unfoldable pub placeOf : List ℕ → Headers → ℕ → ℕ → Place
-placeOf f h a n = cond (ltb (backing f h a n) (h .count)) (placeIn (headerAt f h (backing f h a n)) a) Nowhere
+unfoldable pub backingOf : List ℕ → Headers → ℕ → ℕ → Backing
+backingOf f h a n = cond (ltb (backer f h a n) (h .count)) (backingIn (headerAt f h (backer f h a n)) a) Nowhere
 
 -- the n bytes from a are inside the memory part of a PT_LOAD, a writable one where that is asked
 unfoldable pub holds : Bool → ℕ → ℕ → Segment → Bool

@@ -6,11 +6,11 @@ use mathlib.Core.List.{List}
 use lib.Dec.{leb, eqb}
 use Rattle.rules.specs.Outcome.{Outcome, good, refuse, andThen, require}
 use Rattle.rules.specs.Limits.{entryLimit}
-use Rattle.rules.specs.Segments.{placeOf}
-use Rattle.rules.specs.Dynamic.{entryOf}
+use Rattle.rules.specs.Segments.{backingOf}
+use Rattle.rules.specs.Dynamic.{rela, relasz, memtagGlobals, memtagGlobalsSize, entryOf}
 use Rattle.rules.specs.declared.Headers.{Headers}
-use Rattle.rules.specs.declared.Place.{Place}
-use Rattle.rules.specs.declared.Place.the-variants.{At, Nowhere}
+use Rattle.rules.specs.declared.Backing.{Backing}
+use Rattle.rules.specs.declared.Backing.the-variants.{At, Nowhere}
 use Rattle.rules.specs.declared.Dynamic.{Dynamic}
 use Rattle.rules.specs.declared.Entry.{Entry}
 use Rattle.rules.specs.declared.Entry.the-variants.{Absent, Value}
@@ -23,35 +23,35 @@ orZero Absent = 0
 orZero (Value v) = v
 
 -- a table of 0 bytes is accepted at any address; any other must be backed
-unfoldable pub tablePlace : List ℕ → Headers → ℕ → ℕ → Place
-tablePlace f h address bytes = cond (eqb bytes 0) (At 0) (placeOf f h address bytes)
+unfoldable pub tableBacking : List ℕ → Headers → ℕ → ℕ → Backing
+tableBacking f h address bytes = cond (eqb bytes 0) (At 0) (backingOf f h address bytes)
 
 -- check 7, refused at a position where the table is not backed
-abbrev pub backed : ℕ → Place → Outcome ℕ
+abbrev pub backed : ℕ → Backing → Outcome ℕ
 backed position Nowhere = refuse 7 position
 backed position (At at) = good at
 
 abbrev pub relaAddress : List ℕ → Dynamic → ℕ
-relaAddress f d = orZero (entryOf f d 7)
+relaAddress f d = orZero (entryOf f d rela)
 
 abbrev pub relaBytes : List ℕ → Dynamic → ℕ
-relaBytes f d = orZero (entryOf f d 8)
+relaBytes f d = orZero (entryOf f d relasz)
 
 abbrev pub descriptorAddress : List ℕ → Dynamic → ℕ
-descriptorAddress f d = orZero (entryOf f d 0x7000000d)
+descriptorAddress f d = orZero (entryOf f d memtagGlobals)
 
 abbrev pub descriptorBytes : List ℕ → Dynamic → ℕ
-descriptorBytes f d = orZero (entryOf f d 0x7000000f)
+descriptorBytes f d = orZero (entryOf f d memtagGlobalsSize)
 
 -- check 7: the relocation table not backed or of over 1,024 entries
 unfoldable pub relocationsOf : List ℕ → Headers → Dynamic → Outcome Relocations
 relocationsOf f h d =
-    andThen (backed 0 (tablePlace f h (relaAddress f d) (relaBytes f d))) (λ at.
+    andThen (backed 0 (tableBacking f h (relaAddress f d) (relaBytes f d))) (λ at.
     andThen (require (leb (relaBytes f d / 24) entryLimit) 7 0) (λ _.
     good (record { at = at; entries = relaBytes f d / 24 })))
 
 -- then the descriptor table not backed
 unfoldable pub descriptorsOf : List ℕ → Headers → Dynamic → Outcome Descriptors
 descriptorsOf f h d =
-    andThen (backed 1 (tablePlace f h (descriptorAddress f d) (descriptorBytes f d))) (λ at.
+    andThen (backed 1 (tableBacking f h (descriptorAddress f d) (descriptorBytes f d))) (λ at.
     good (record { at = at; bytes = descriptorBytes f d }))

@@ -4,7 +4,7 @@ ghost use Prim.Native.Nat.{_+_, _≤_, _<_};
 ghost use lib.ListN.{length, getD};
 ghost use Rattle.rules.specs.Limits.{addressLimit};
 ghost use Rattle.rules.specs.Outcome.{refuse};
-ghost use Rattle.rules.specs.Descriptors.{ulebAt, placed, second, descriptor, stepAt};
+ghost use Rattle.rules.specs.Descriptors.{ulebAt, globalAfter, second, descriptor, stepAt};
 ghost use Rattle.rules.specs.Answers.{ofStep};
 ghost use Rattle.rules.specs.Numbers.{ofUleb};
 use crate::ADDRESS_LIMIT;
@@ -101,9 +101,9 @@ fn refused(number: u8, index: u64) -> Step
 }
 
 // A global whose size is `less` and 1 more, for it may be 2^64 granules.
-fn place(index: u64, end: u64, distance: u64, less: u64, next: u64) -> Step
+fn global_after(index: u64, end: u64, distance: u64, less: u64, next: u64) -> Step
     requires { ⌜ end ≤ addressLimit ⌝ }
-    ensures { λ r. ⌜ ofStep r ≡ placed index end distance (less + 1) next ⌝ }
+    ensures { λ r. ⌜ ofStep r ≡ globalAfter index end distance (less + 1) next ⌝ }
 {
     if GRANULE_LIMIT < distance {
         return refused(BAD_GLOBAL, index);
@@ -136,7 +136,7 @@ fn step_second(index: u64, s: &[u8], end: u64, distance: u64, at: usize) -> Step
     let Uleb::Number(v, next) = u else {
         return refused(BAD_DESCRIPTOR, index);
     };
-    place(index, end, distance, v, next as u64)
+    global_after(index, end, distance, v, next as u64)
 }
 
 // The first number has the distance and a size, or 0 where a second number follows.
@@ -152,7 +152,7 @@ fn step_first(index: u64, s: &[u8], end: u64, at: usize) -> Step
     if size == 0 {
         step_second(index, s, end, v / SIZES, next)
     } else {
-        place(index, end, v / SIZES, size - SIZE_OFFSET, next as u64)
+        global_after(index, end, v / SIZES, size - SIZE_OFFSET, next as u64)
     }
 }
 

@@ -3,14 +3,36 @@
 // Global descriptors: the reading of one at a cursor. A method stands in the crate of its struct.
 pub mod encoding;
 
+// The limits of document 01, each by name.
+
+// The shortest and the longest file.
+pub const FILE_LEAST: u64 = 64;
+
+pub const FILE_LIMIT: u64 = 1048576;
+
 // The end of memory.
 pub const MEMORY_LIMIT: u64 = 1048576;
+
+// Program headers.
+pub const HEADER_LIMIT: u32 = 16;
+
+// Bytes of PT_DYNAMIC.
+pub const DYNAMIC_LIMIT: u64 = 4096;
+
+// Relocation entries.
+pub const ENTRY_LIMIT: usize = 1024;
+
+// Descriptors.
+pub const GLOBAL_LIMIT: u32 = 1024;
 
 // Addresses are below this.
 pub const ADDRESS_LIMIT: u64 = 281474976710656;
 
 // Bytes of a granule.
 pub const GRANULE: u64 = 16;
+
+// The bias is a multiple of this.
+pub const PAGE: u64 = 4096;
 
 // The refusal of an arm that is never taken.
 pub const NEVER: Refusal = Refusal {
@@ -27,7 +49,7 @@ pub struct Refusal {
 // Where the program header table stands in the file, and how many headers it has.
 pub struct Headers {
     pub table: u32,
-    pub count: u16,
+    pub count: u32,
 }
 
 // One program header.
@@ -42,7 +64,7 @@ pub struct Segment {
 }
 
 // Where bytes at an address stand in the file.
-pub enum Place {
+pub enum Backing {
     At(u32),
     Nowhere,
 }
@@ -50,7 +72,7 @@ pub enum Place {
 // Where the dynamic table stands in the file, and how many entries come before the first DT_NULL.
 pub struct Dynamic {
     pub at: u32,
-    pub entries: u16,
+    pub entries: u32,
 }
 
 // The value of a dynamic entry.
@@ -78,7 +100,7 @@ pub struct Known {
 // Where the relocation table stands in the file, and how many entries it has.
 pub struct Relocations {
     pub at: u32,
-    pub entries: u16,
+    pub entries: u32,
 }
 
 // Where the descriptor table stands in the file, and how many bytes it has.
@@ -99,21 +121,22 @@ pub struct Cursor {
     pub end: u64,
 }
 
-// What the ELF reader finds in a file that passes checks 1 to 7.
-pub struct Parts {
-    pub headers: Headers,
-    pub dynamic: Dynamic,
-    pub relocations: Relocations,
-    pub descriptors: Descriptors,
+// A global that was read and the cursor after it, as plain numbers; no granules where none was read.
+pub struct Reading {
+    pub start: u64,
+    pub granules: u64,
+    pub position: u64,
+    pub end: u64,
 }
 
-// What the ELF reader finds in a file that passes checks 1 to 9.
+// What the ELF reader finds in a file that passes checks 1 to 9. The symbol table is known by its address.
 pub struct Module {
     pub headers: Headers,
     pub dynamic: Dynamic,
+    pub symbols: Entry,
     pub relocations: Relocations,
     pub descriptors: Descriptors,
-    pub globals: u16,
+    pub globals: u32,
 }
 
 // A symbol's fields that a relocation uses.
@@ -154,8 +177,8 @@ pub struct Facts {
     pub mode: Mode,
     pub heap: Switch,
     pub stack: Switch,
-    pub globals: u16,
-    pub words: u16,
+    pub globals: u32,
+    pub words: u32,
 }
 
 // The answer of a check that finds nothing out.
@@ -196,43 +219,13 @@ pub enum Step {
 
 // How many globals a table lists, in the walk of checks 8 and 9.
 pub enum GlobalsAnswer {
-    Found(u16),
-    Refused(Refusal),
-}
-
-// What the walk of checks 8 and 9 finds beside a list of choices: how many globals the table lists, and the first whose choice
-// is bad, or their number where there is none.
-pub struct Counted {
-    pub globals: u16,
-    pub fault: u16,
-}
-
-pub enum CountedAnswer {
-    Found(Counted),
-    Refused(Refusal),
-}
-
-// The answer of the ELF reader, checks 1 to 7.
-pub enum PartsAnswer {
-    Found(Parts),
+    Found(u32),
     Refused(Refusal),
 }
 
 // The answer of the ELF reader, checks 1 to 9.
 pub enum ModuleAnswer {
     Found(Module),
-    Refused(Refusal),
-}
-
-// What a load reads of a file that passes checks 1 to 9: the module, and the first global whose choice is bad, or their number
-// where there is none.
-pub struct Chosen {
-    pub read: Module,
-    pub fault: u16,
-}
-
-pub enum ChosenAnswer {
-    Found(Chosen),
     Refused(Refusal),
 }
 
@@ -245,8 +238,8 @@ pub enum Answer {
 // What the walk of the relocation entries finds besides: how many words are relocated, and the first entry whose address is
 // out of range, or the number of entries where there is none.
 pub struct Walked {
-    pub words: u16,
-    pub outside: u16,
+    pub words: u32,
+    pub outside: u32,
 }
 
 // The answer of checks 10 and 11.

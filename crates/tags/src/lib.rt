@@ -24,7 +24,7 @@ const UNTAGGED: u8 = 0;
 // The refusal number of check 14.
 const BAD_CHOICE: u8 = 14;
 
-fn refused(position: u16) -> Checked
+fn refused(position: u32) -> Checked
     ensures { λ r. ⌜ ofChecked r ≡ refuse 14 position ⌝ }
 {
     let r = Refusal {
@@ -35,7 +35,7 @@ fn refused(position: u16) -> Checked
 }
 
 // A choice by its index.
-fn choice_at(choices: &[u8], i: u16) -> u8
+fn choice_at(choices: &[u8], i: u32) -> u8
     ensures { λ r. ⌜ r ≡ getD (now (choices .entry)) i 0 ⌝ }
 {
     reads::byte_at(choices, i as usize)
@@ -43,7 +43,7 @@ fn choice_at(choices: &[u8], i: u16) -> u8
 
 // Check 14, where the walk of the descriptors counted the globals and found the first bad choice: as many choices as globals, and
 // each of them good.
-pub fn check_choices(globals: u16, fault: u16, choices: &[u8]) -> Checked
+pub fn check_choices(globals: u32, fault: u32, choices: &[u8]) -> Checked
     ensures { λ r. ⌜ ofChecked r ≡ choicesFrom globals fault (length (now (choices .entry))) ⌝ }
 {
     if choices.len() != globals as usize {
@@ -69,7 +69,7 @@ pub fn tag_globals(
     f: &[u8],
     h: Headers,
     t: Descriptors,
-    globals: u16,
+    globals: u32,
     choices: &[u8],
     plane: &mut [u8],
 )

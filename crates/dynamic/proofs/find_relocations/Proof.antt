@@ -8,15 +8,15 @@ use Rattle.dynamic.proofs.find_relocations.Tie as tie
 
 returns : tie.Need-returns
 unfolding relocationsOf
-returns c = rw (← c .before .before .before .before .before .before .entry-of .ensures, ← c .before .before .before .before .before .or-zero .ensures, ← c .before .before .before .before .entry-of2 .ensures, ← c .before .before .before .or-zero2 .ensures, ← c .before .before .table-place .ensures, c .enum-told .given .1)
+returns c = rw (← c .before .before .before .before .before .before .entry-of .ensures, ← c .before .before .before .before .before .or-zero .ensures, ← c .before .before .before .before .entry-of2 .ensures, ← c .before .before .before .or-zero2 .ensures, ← c .before .before .table-backing .ensures, c .enum-told .given .1)
 
 returns-2 : tie.Need-returns-2
 unfolding relocationsOf
-returns-2 c = rw (← c .before .before .before .before .before .before .before .before .entry-of .ensures, ← c .before .before .before .before .before .before .before .or-zero .ensures, ← c .before .before .before .before .before .before .entry-of2 .ensures, ← c .before .before .before .before .before .or-zero2 .ensures, ← c .before .before .before .before .table-place .ensures, c .before .before .place .given .1, lt-leb _ _ (c .if1 .taken))
+returns-2 c = rw (← c .before .before .before .before .before .before .before .before .entry-of .ensures, ← c .before .before .before .before .before .before .before .or-zero .ensures, ← c .before .before .before .before .before .before .entry-of2 .ensures, ← c .before .before .before .before .before .or-zero2 .ensures, ← c .before .before .before .before .table-backing .ensures, c .before .before .place .given .1, lt-leb _ _ (c .if1 .taken))
 
 returns-3 : tie.Need-returns-3
 unfolding relocationsOf
-returns-3 c = rw (← c .before .before .before .before .before .before .before .before .entry-of .ensures, ← c .before .before .before .before .before .before .before .or-zero .ensures, ← c .before .before .before .before .before .before .entry-of2 .ensures, ← c .before .before .before .before .before .or-zero2 .ensures, ← c .before .before .before .before .table-place .ensures, c .before .before .place .given .1, le-leb _ _ (c .if1 .left))
+returns-3 c = rw (← c .before .before .before .before .before .before .before .before .entry-of .ensures, ← c .before .before .before .before .before .before .before .or-zero .ensures, ← c .before .before .before .before .before .before .entry-of2 .ensures, ← c .before .before .before .before .before .or-zero2 .ensures, ← c .before .before .before .before .table-backing .ensures, c .before .before .place .given .1, le-leb _ _ (c .if1 .left))
 
 pub find-relocations-spec : {M : Type 1} → statement M
 find-relocations-spec =

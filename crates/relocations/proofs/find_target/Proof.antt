@@ -20,7 +20,7 @@ returns-3 c = rw (ne-eqb _ _ (c .before .before .before .if1 .left), ← c .befo
 
 returns-4 : tie.Need-returns-4
 unfolding target
-returns-4 c = rw (ne-eqb _ _ (c .before .before .before .before .before .if1 .left), ← c .before .before .before .before .is-symbolic .ensures, c .before .before .before .if3 .taken, ne-eqb _ _ (c .before .before .if4 .left), ← c .before .symbol-place .ensures) (c .named-target .ensures)
+returns-4 c = rw (ne-eqb _ _ (c .before .before .before .before .before .if1 .left), ← c .before .before .before .before .is-symbolic .ensures, c .before .before .before .if3 .taken, ne-eqb _ _ (c .before .before .if4 .left), ← c .before .symbol-backing .ensures) (c .named-target .ensures)
 
 returns-5 : tie.Need-returns-5
 unfolding target

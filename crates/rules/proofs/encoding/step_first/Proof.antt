@@ -28,11 +28,11 @@ returns c = rw (c .refused .ensures, ← c .before .before .before .read-uleb .e
 step-second-requires : tie.Need-step-second-requires
 step-second-requires c κs = search needs
 
-sub-place : tie.Need-sub-place
-sub-place c = search needs
+sub-global-after : tie.Need-sub-global-after
+sub-global-after c = search needs
 
-place-requires : tie.Need-place-requires
-place-requires c κs = search needs
+global-after-requires : tie.Need-global-after-requires
+global-after-requires c κs = search needs
 
 returns-2 : tie.Need-returns-2
 unfolding descriptor
@@ -43,7 +43,7 @@ unfolding descriptor
 returns-3 c =
     let v = c .before .before .before .u .given .0 .0 in
     let size : v % 8 - 1 + 1 ≡ v % 8 = omega arith in
-    rw (c .place .ensures, ← c .before .before .before .before .before .read-uleb .ensures, c .before .before .before .u .given .1, ne-eqb _ _ (c .before .if1 .left), size)
+    rw (c .global-after .ensures, ← c .before .before .before .before .before .read-uleb .ensures, c .before .before .before .u .given .1, ne-eqb _ _ (c .before .if1 .left), size)
 
 pub step-first-spec : {M : Type 1} → statement M
 step-first-spec =
@@ -55,7 +55,7 @@ step-first-spec =
     refused-requires
     returns
     step-second-requires
-    sub-place
-    place-requires
+    sub-global-after
+    global-after-requires
     returns-2
     returns-3)

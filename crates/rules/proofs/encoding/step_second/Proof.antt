@@ -21,12 +21,12 @@ returns : tie.Need-returns
 unfolding second
 returns c = rw (c .refused .ensures, ← c .before .before .before .read-uleb .ensures, c .before .enum-told .given .1)
 
-place-requires : tie.Need-place-requires
-place-requires c κs = search needs
+global-after-requires : tie.Need-global-after-requires
+global-after-requires c κs = search needs
 
 returns-2 : tie.Need-returns-2
 unfolding second
-returns-2 c = rw (c .place .ensures, ← c .before .before .before .before .read-uleb .ensures, c .before .before .u .given .1)
+returns-2 c = rw (c .global-after .ensures, ← c .before .before .before .before .read-uleb .ensures, c .before .before .u .given .1)
 
 pub step-second-spec : {M : Type 1} → statement M
 step-second-spec =
@@ -37,5 +37,5 @@ step-second-spec =
     enum-told
     refused-requires
     returns
-    place-requires
+    global-after-requires
     returns-2)

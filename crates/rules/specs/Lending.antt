@@ -1,0 +1,31 @@
+-- Check 12: the lent memory, the plane and the bias.
+-- Assumes nothing.
+use Prim.Native.Nat.{ℕ, _+_, _*_, _%_}
+use mathlib.Core.Bool.{Bool, _&&_}
+use mathlib.Core.List.{List}
+use lib.Dec.{leb, eqb}
+use Rattle.rules.specs.Outcome.{require}
+use Rattle.rules.specs.Checks.{Check}
+use Rattle.rules.specs.Limits.{memoryLimit, addressLimit, granule, page}
+use Rattle.rules.specs.Segments.{loadsEnd}
+use Rattle.rules.specs.declared.Module.{Module}
+
+-- a memory of so many bytes, whose PT_LOADs end at last, and the bias
+unfoldable pub memoryFits : ℕ → ℕ → ℕ → Bool
+memoryFits last memory bias =
+    eqb (memory % granule) 0
+    && (leb last memory
+    && (leb memory memoryLimit
+    && (eqb (bias % page) 0
+    && leb (bias + memory) addressLimit)))
+
+-- the plane is exactly one sixteenth of the memory
+unfoldable pub planeFits : ℕ → ℕ → Bool
+planeFits memory plane = eqb (granule * plane) memory
+
+-- check 12, of a bias and the lengths of memory and plane
+unfoldable pub lendingFits : List ℕ → Module → ℕ → ℕ → ℕ → Bool
+lendingFits f m bias n p = memoryFits (loadsEnd f (m .headers)) n bias && planeFits n p
+
+unfoldable pub lendingCheck : List ℕ → Module → ℕ → ℕ → ℕ → Check
+lendingCheck f m bias n p = require (lendingFits f m bias n p) 12 0

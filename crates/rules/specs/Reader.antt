@@ -1,0 +1,56 @@
+-- The reader as a whole: checks 1 to 9 in their order, and the module that they find.
+-- Assumes nothing.
+use Prim.Native.Nat.{ℕ}
+use mathlib.Core.List.{List, [], _∷_, _++_}
+use lib.ListN.{length}
+use Rattle.rules.specs.Outcome.{Outcome, found, passed}
+use Rattle.rules.specs.Checks.{Check, checked}
+use Rattle.rules.specs.Headers.{headerChecks, theHeaders}
+use Rattle.rules.specs.Segments.{loadsCheck}
+use Rattle.rules.specs.Dynamic.{dynamicOf, symtab, knownTags, entriesCheck, entryOf}
+use Rattle.rules.specs.Tables.{relocationsOf, descriptorsOf}
+use Rattle.rules.specs.Descriptors.{globalsOf}
+use Rattle.rules.specs.declared.Dynamic.{Dynamic}
+use Rattle.rules.specs.declared.Relocations.{Relocations}
+use Rattle.rules.specs.declared.Descriptors.{Descriptors}
+use Rattle.rules.specs.declared.Global.{Global}
+use Rattle.rules.specs.declared.Module.{Module}
+
+-- what the checks find; what stands here for a refusal is never reached
+abbrev pub theDynamic : List ℕ → Dynamic
+theDynamic f = found (record { at = 0; entries = 0 }) (dynamicOf f (theHeaders f))
+
+abbrev pub theRelocations : List ℕ → Relocations
+theRelocations f = found (record { at = 0; entries = 0 }) (relocationsOf f (theHeaders f) (theDynamic f))
+
+abbrev pub theDescriptors : List ℕ → Descriptors
+theDescriptors f = found (record { at = 0; bytes = 0 }) (descriptorsOf f (theHeaders f) (theDynamic f))
+
+abbrev pub theGlobals : List ℕ → List Global
+theGlobals f = found [] (globalsOf f (theHeaders f) (theDescriptors f))
+
+abbrev pub theModule : List ℕ → Module
+theModule f = record {
+  headers = theHeaders f;
+  dynamic = theDynamic f;
+  symbols = entryOf f (theDynamic f) symtab;
+  relocations = theRelocations f;
+  descriptors = theDescriptors f;
+  globals = length (theGlobals f);
+}
+
+-- checks 1 to 9 in their order; 7 is two, and 8 and 9 are one walk
+abbrev pub readerChecks : List ℕ → List Check
+readerChecks f =
+    headerChecks f
+    ++ (loadsCheck f (theHeaders f)
+    ∷ passed (dynamicOf f (theHeaders f))
+    ∷ entriesCheck knownTags f (theDynamic f)
+    ∷ passed (relocationsOf f (theHeaders f) (theDynamic f))
+    ∷ passed (descriptorsOf f (theHeaders f) (theDynamic f))
+    ∷ passed (globalsOf f (theHeaders f) (theDescriptors f))
+    ∷ [])
+
+-- the module of a file that passes them
+unfoldable pub moduleOf : List ℕ → Outcome Module
+moduleOf f = checked (readerChecks f) (theModule f)
