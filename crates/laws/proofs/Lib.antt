@@ -1,4 +1,5 @@
 pub mod Checks
+pub mod Stages
 pub mod KnownTags
 pub mod Loads
 pub mod Writes

@@ -1,6 +1,7 @@
 pub mod FirstLaws
 pub mod BytesLaws
 pub mod OutcomeLaws
+pub mod ChecksLaws
 pub mod MemoryLaws
 pub mod Tests
 pub mod BoolLaws

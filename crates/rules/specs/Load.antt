@@ -4,9 +4,9 @@ use Prim.Native.Nat.{ℕ}
 use mathlib.Core.List.{List, [], _∷_, _++_}
 use Rattle.rules.specs.Outcome.{Outcome, good, bad}
 use Rattle.rules.specs.Checks.{Check, checked}
-use Rattle.rules.specs.Reader.{theModule}
+use Rattle.rules.specs.Reader.{theModule, readerChecks}
 use Rattle.rules.specs.Relocations.{placeAt, live, items}
-use Rattle.rules.specs.Examine.{factsOf, examineChecks}
+use Rattle.rules.specs.Examine.{factsOf, moduleChecks}
 use Rattle.rules.specs.Lending.{lendingCheck}
 use Rattle.rules.specs.Addresses.{addressesCheck}
 use Rattle.rules.specs.Choices.{globalsIn, choicesCheck}
@@ -44,9 +44,13 @@ lentChecks f m bias n p choices =
     ∷ choicesCheck f m choices
     ∷ []
 
+-- and all the checks of a module: 10 to 14
+abbrev pub callChecks : List ℕ → Module → ℕ → ℕ → ℕ → List ℕ → List Check
+callChecks f m bias n p choices = moduleChecks f m ++ lentChecks f m bias n p choices
+
 -- checks 1 to 14 in their order
 abbrev pub loadChecks : List ℕ → ℕ → ℕ → ℕ → List ℕ → List Check
-loadChecks f bias n p choices = examineChecks f ++ lentChecks f (theModule f) bias n p choices
+loadChecks f bias n p choices = readerChecks f ++ callChecks f (theModule f) bias n p choices
 
 -- the load of a file that passes them
 unfoldable pub loadOf : List ℕ → ℕ → ℕ → ℕ → List ℕ → Outcome Loaded
