@@ -34,6 +34,33 @@ pub const GRANULE: u64 = 16;
 // The bias is a multiple of this.
 pub const PAGE: u64 = 4096;
 
+// The dynamic tags that are known.
+pub const DT_SYMTAB: u64 = 6;
+
+pub const DT_SYMENT: u64 = 11;
+
+pub const DT_RELA: u64 = 7;
+
+pub const DT_RELASZ: u64 = 8;
+
+pub const DT_RELAENT: u64 = 9;
+
+pub const DT_REL: u64 = 17;
+
+pub const DT_JMPREL: u64 = 23;
+
+pub const DT_RELR: u64 = 36;
+
+pub const DT_MEMTAG_MODE: u64 = 0x70000009;
+
+pub const DT_MEMTAG_HEAP: u64 = 0x7000000b;
+
+pub const DT_MEMTAG_STACK: u64 = 0x7000000c;
+
+pub const DT_MEMTAG_GLOBALS: u64 = 0x7000000d;
+
+pub const DT_MEMTAG_GLOBALSSZ: u64 = 0x7000000f;
+
 // The refusal of an arm that is never taken.
 pub const NEVER: Refusal = Refusal {
     number: 0,
