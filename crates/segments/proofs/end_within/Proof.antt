@@ -2,8 +2,8 @@
 -- Assumes nothing.
 use borrow.Author.Tests.{eq-eqb, ne-eqb}
 use borrow.Author.Needs.{needs}
-use Rattle.headers.proofs.end_within.Statement.{statement}
-use Rattle.headers.proofs.end_within.Tie as tie
+use Rattle.segments.proofs.end_within.Statement.{statement}
+use Rattle.segments.proofs.end_within.Tie as tie
 
 returns : tie.Need-returns
 returns c = rw (c .sum-within .ensures, eq-eqb _ _ (c .before .if1 .taken))

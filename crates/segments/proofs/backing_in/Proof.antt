@@ -1,10 +1,10 @@
 -- What is backed stands inside the file's limit, so the position fits.
 -- Assumes nothing.
-use Rattle.headers.proofs.Laws.{backs-inside}
+use Rattle.segments.proofs.Laws.{backs-inside}
 use native.Mathlib.Omega.{arith}
 use borrow.Author.Needs.{needs}
-use Rattle.headers.proofs.backing_in.Statement.{statement}
-use Rattle.headers.proofs.backing_in.Tie as tie
+use Rattle.segments.proofs.backing_in.Statement.{statement}
+use Rattle.segments.proofs.backing_in.Tie as tie
 
 sub-t4 : tie.Need-sub-t4
 sub-t4 c = backs-inside _ _ _ (c .before .pre) .0

@@ -9,8 +9,8 @@ use mathlib.Core.Path.{_≡_, _∙_}
 use Prim.Native.Nat.{_≤_, _-_}
 use native.Mathlib.Omega.{arith}
 use borrow.Author.Needs.{needs}
-use Rattle.headers.proofs.backing_of.Statement.{statement}
-use Rattle.headers.proofs.backing_of.Tie as tie
+use Rattle.segments.proofs.backing_of.Statement.{statement}
+use Rattle.segments.proofs.backing_of.Tie as tie
 
 abbrev Inv-loop : tie.InvT-loop
 Inv-loop f h a n count i₀ i = (i ≤ count) × (first (backsAt f h a n) 0 count ≡ first (backsAt f h a n) i (count - i))
@@ -27,14 +27,29 @@ backing-in-requires c κs = rw (c .header-at .ensures) (rw (← c .before .befor
 
 returns : tie.Need-returns Inv-loop μ-loop
 unfolding backingOf backer
-returns c = let l = c .before .before .before .before .before .loop in let a = c .before .before .before .before .before .before .before .args in let t = backsAt (a .f .now) (a .h) (a .a) (a .n) in let e : first t 0 (a .h .count) ≡ l .i = l .inv .1 ∙ first-hit t (l .i) (a .h .count) (omega arith) (rw (← c .before .before .before .is-backing-at .ensures) (c .before .before .if1 .taken)) in rw (e, lt-ltb (l .i) (a .h .count) (omega arith), ← c .before .header-at .ensures) (c .backing-in .ensures)
+returns c =
+    let l = c .before .before .before .before .before .loop in
+    let a = c .before .before .before .before .before .before .before .args in
+    let t = backsAt (a .f .now) (a .h) (a .a) (a .n) in
+    let e : first t 0 (a .h .count) ≡ l .i = l .inv .1 ∙ first-hit t (l .i) (a .h .count) (omega arith)
+    (rw (← c .before .before .before .is-backing-at .ensures) (c .before .before .if1 .taken)) in
+    rw (e, lt-ltb (l .i) (a .h .count) (omega arith), ← c .before .header-at .ensures) (c .backing-in .ensures)
 
 loop-again : tie.Need-loop-again Inv-loop μ-loop
-loop-again c = let l = c .before .before .before .loop in let a = c .before .before .before .before .before .args in let t = backsAt (a .f .now) (a .h) (a .a) (a .n) in (omega arith, l .inv .1 ∙ first-step t (l .i) (a .h .count) (omega arith) (rw (← c .before .is-backing-at .ensures) (c .if1 .left)))
+loop-again c =
+    let l = c .before .before .before .loop in
+    let a = c .before .before .before .before .before .args in
+    let t = backsAt (a .f .now) (a .h) (a .a) (a .n) in
+    (omega arith, l .inv .1 ∙ first-step t (l .i) (a .h .count) (omega arith) (rw (← c .before .is-backing-at .ensures) (c .if1 .left)))
 
 returns-2 : tie.Need-returns-2 Inv-loop μ-loop
 unfolding backingOf backer
-returns-2 c = let l = c .before .loop in let a = c .before .before .before .args in let t = backsAt (a .f .now) (a .h) (a .a) (a .n) in let e : first t 0 (a .h .count) ≡ a .h .count = l .inv .1 ∙ first-none t (l .i) (a .h .count) (omega arith) (omega arith) in rw (e, le-ltb (a .h .count) (a .h .count) (omega arith))
+returns-2 c =
+    let l = c .before .loop in
+    let a = c .before .before .before .args in
+    let t = backsAt (a .f .now) (a .h) (a .a) (a .n) in
+    let e : first t 0 (a .h .count) ≡ a .h .count = l .inv .1 ∙ first-none t (l .i) (a .h .count) (omega arith) (omega arith) in
+    rw (e, le-ltb (a .h .count) (a .h .count) (omega arith))
 
 pub backing-of-spec : {M : Type 1} → statement M
 backing-of-spec =
