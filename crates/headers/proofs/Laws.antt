@@ -1,8 +1,8 @@
--- What follows from checks 1 to 4, and the walks over headers one turn at a time.
+-- What follows from checks 1 to 4.
 -- Assumes nothing.
 use Prim.Native.Nat.{ℕ, zero, suc, _+_, _*_, _-_, _/_, _^_, _≤_, _<_}
 use mathlib.Core.Path.{_≡_, refl}
-use mathlib.Core.Bool.{Bool, true, false, cond, not, _&&_, _||_}
+use mathlib.Core.Bool.{Bool, true, false, not, _&&_, _||_}
 use mathlib.Core.List.{List}
 use native.Mathlib.Omega.{arith}
 use native.Mathlib.Nat.{pow-suc, mul-div-cancel}
@@ -11,9 +11,10 @@ use lib.ListN.{length}
 use lib.Dec.{leb, eqb}
 use borrow.Author.Tests.{leb-true}
 use Rattle.rules.specs.Outcome.{good}
+use Rattle.rules.specs.Limits.{fileLeast, fileLimit, memoryLimit}
 use Rattle.rules.specs.Bytes.{le}
 use Rattle.rules.specs.Headers.{goodHeader, sizeCheck, headerCheck}
-use Rattle.rules.specs.Segments.{powerBelow, goodLoad, isLoad, covers, backs}
+use Rattle.rules.specs.Segments.{powerBelow, goodLoad, isLoad}
 use Rattle.rules.specs.declared.Segment.{Segment}
 use Rattle.rules.proofs.OutcomeLaws.{and-left, and-right, require-held}
 
@@ -23,11 +24,11 @@ unfolding goodHeader
 header-table n kind machine version size count table h = leb-true _ _ (search (and-left, and-right))
 
 -- a header table that passed checks 1 and 3 begins inside the file
-pub table-within : (f : List ℕ) → sizeCheck f ≡ good tt → headerCheck f ≡ good tt → le 8 f 32 ≤ 1048576
+pub table-within : (f : List ℕ) → sizeCheck f ≡ good tt → headerCheck f ≡ good tt → le 8 f 32 ≤ fileLimit
 unfolding sizeCheck headerCheck
 table-within f s h =
-    let sized : (leb 64 (length f) && leb (length f) 1048576) ≡ true = require-held _ 1 0 s in
-    let size : length f ≤ 1048576 = leb-true _ _ (search (and-left, and-right)) in
+    let sized : (leb fileLeast (length f) && leb (length f) fileLimit) ≡ true = require-held _ 1 0 s in
+    let size : length f ≤ fileLimit = leb-true _ _ (search (and-left, and-right)) in
     omega (arith, header-table (length f) (le 2 f 16) (le 2 f 18) (le 4 f 20) (le 2 f 54) (le 2 f 56) (le 8 f 32) (require-held _ 3 0 h))
 
 pub half-power : (m : ℕ) → 2 ^ suc m / 2 ≡ 2 ^ m
@@ -43,24 +44,14 @@ half-less zero p h e = absurd (omega arith)
 half-less (suc m) p h e = rw (e, half-power m, sub-one)
 
 -- a good PT_LOAD ends inside memory, and so does one that is not bad
-pub good-load-end : (n last : ℕ) (s : Segment) → goodLoad n last s ≡ true → s .vaddr + s .memsz ≤ 1048576
+pub good-load-end : (n last : ℕ) (s : Segment) → goodLoad n last s ≡ true → s .vaddr + s .memsz ≤ memoryLimit
 unfolding goodLoad
 good-load-end n last s h = leb-true _ _ (search (and-left, and-right))
 
-pub load-end : (n last : ℕ) (s : Segment) → isLoad s ≡ true → (isLoad s && not (goodLoad n last s)) ≡ false → s .vaddr + s .memsz ≤ 1048576
+pub load-end : (n last : ℕ) (s : Segment) → isLoad s ≡ true → (isLoad s && not (goodLoad n last s)) ≡ false → s .vaddr + s .memsz ≤ memoryLimit
 load-end n last s l h = good-load-end n last s (not-bad _ _ l h)
   where
     not-bad : (a b : Bool) → a ≡ true → (a && not b) ≡ false → b ≡ true
     not-bad true true p q = refl
     not-bad true false p q = absurd (let z : _≡_ {A = ℕ} 0 1 = cc in omega arith)
     not-bad false b p q = absurd (let z : _≡_ {A = ℕ} 0 1 = cc in omega arith)
-
--- what is backed lies in the segment's file part, and that in the file's limit
-pub backs-inside : (a n : ℕ) (s : Segment) → backs a n s ≡ true → (s .vaddr ≤ a) × (a + n ≤ s .vaddr + s .filesz) × (s .offset + s .filesz ≤ 1048576)
-unfolding backs covers
-backs-inside a n s h =
-    (leb-true _ _ (search (and-left, and-right)), leb-true _ _ (search (and-left, and-right)), leb-true _ _ (search (and-left, and-right)))
-
-pub leb-cond : (b : Bool) (x y n : ℕ) → leb (cond b x y) n ≡ cond b (leb x n) (leb y n)
-leb-cond true x y n = refl
-leb-cond false x y n = refl

@@ -182,7 +182,7 @@ pub fn holds_range(start: u64, size: u64, a: u64, n: u64) -> bool
 // The first of the indices up to i at which a test holds, from the first of those before i, and whether it holds at i. Where there
 // is none it is the number of indices.
 pub fn first_after(found: u32, i: u32, hit: bool) -> u32
-    requires { ⌜ i < 65535 ⌝ }
+    requires { ⌜ i < 4294967295 ⌝ }
     ensures { λ r. ⌜ r ≡ cond hit found (cond (eqb found i) (i + 1) found) ⌝ }
 {
     if hit {
@@ -196,7 +196,7 @@ pub fn first_after(found: u32, i: u32, hit: bool) -> u32
 
 // A check that found the first fault among n: refused with its number there, passed where there is none.
 pub fn check_fault(number: u8, n: u32, lowest: u32) -> Checked
-    ensures { λ r. ⌜ ofChecked r ≡ faultAt number n lowest ⌝ }
+    ensures { λ r. ⌜ ofChecked r ≡ faultAt number (λ i. i) n lowest ⌝ }
 {
     if lowest == n {
         return Checked::Passed;

@@ -14,12 +14,18 @@ use Rattle.headers.proofs.check_header.Tie as tie
 
 returns : tie.Need-returns
 unfolding headerCheck
-returns c = let f = c .before .before .before .before .before .before .before .before .before .args .f .now in let e : goodHeader (length f) (le 2 f 16) (le 2 f 18) (le 4 f 20) (le 2 f 54) (le 2 f 56) (le 8 f 32) ≡ true = cc in sym (require-true _ 3 0 e)
+returns c =
+    let f = c .before .before .before .before .before .before .before .before .before .args .f .now in
+    let e : goodHeader (length f) (le 2 f 16) (le 2 f 18) (le 4 f 20) (le 2 f 54) (le 2 f 56) (le 8 f 32) ≡ true = cc in
+    sym (require-true _ 3 0 e)
 
 returns-2 : tie.Need-returns-2
 unfolding headerCheck
-returns-2 c = let f = c .before .before .before .before .before .before .before .before .before .args .f .now in let e : goodHeader (length f) (le 2 f 16) (le 2 f 18) (le 4 f 20) (le 2 f 54) (le 2 f 56) (le 8 f 32) ≡ false = cc in sym (require-false _ 3 0 e)
+returns-2 c =
+    let f = c .before .before .before .before .before .before .before .before .before .args .f .now in
+    let e : goodHeader (length f) (le 2 f 16) (le 2 f 18) (le 4 f 20) (le 2 f 54) (le 2 f 56) (le 8 f 32) ≡ false = cc in
+    sym (require-false _ 3 0 e)
 
 pub check-header-spec : {M : Type 1} → statement M
 check-header-spec =
-    tie.close (tie.spec (search needs) (search needs) (search needs) (search needs) (search needs) (search needs) (search needs) returns returns-2)
+    tie.close (tie.spec (search needs) (search needs) (search needs) (search needs) (search needs) (search needs) (search needs) (search needs) returns returns-2)

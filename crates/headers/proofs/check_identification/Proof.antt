@@ -18,14 +18,24 @@ abbrev μ-loop : tie.MeasureT-loop
 
 returns : tie.Need-returns Inv-loop μ-loop
 unfolding identificationCheck
-returns c = let l = c .before .before .before .loop in let t = wrongByte (c .before .before .before .before .before .args .f .now) in sym (faultless-hit 2 t 7 (l .i) (l .inv .1 ∙ first-hit t (l .i) 7 (omega arith) (sym (c .before .is-wrong-at .ensures) ∙ c .if1 .taken)) (omega arith))
+returns c =
+    let l = c .before .before .before .loop in
+    let t = wrongByte (c .before .before .before .before .before .args .f .now) in
+    sym (faultless-hit 2 t 7 (l .i) (l .inv .1 ∙ first-hit t (l .i) 7 (omega arith) (sym (c .before .is-wrong-at .ensures) ∙ c .if1 .taken))
+    (omega arith))
 
 loop-again : tie.Need-loop-again Inv-loop μ-loop
-loop-again c = let l = c .before .before .before .loop in let t = wrongByte (c .before .before .before .before .before .args .f .now) in (omega arith, l .inv .1 ∙ first-step t (l .i) 7 (omega arith) (sym (c .before .is-wrong-at .ensures) ∙ c .if1 .left))
+loop-again c =
+    let l = c .before .before .before .loop in
+    let t = wrongByte (c .before .before .before .before .before .args .f .now) in
+    (omega arith, l .inv .1 ∙ first-step t (l .i) 7 (omega arith) (sym (c .before .is-wrong-at .ensures) ∙ c .if1 .left))
 
 returns-2 : tie.Need-returns-2 Inv-loop μ-loop
 unfolding identificationCheck
-returns-2 c = let l = c .before .loop in let t = wrongByte (c .before .before .before .args .f .now) in sym (faultless-none 2 t 7 (l .inv .1 ∙ first-none t (l .i) 7 (omega arith) (omega arith)))
+returns-2 c =
+    let l = c .before .loop in
+    let t = wrongByte (c .before .before .before .args .f .now) in
+    sym (faultless-none 2 t 7 (l .inv .1 ∙ first-none t (l .i) 7 (omega arith) (omega arith)))
 
 pub check-identification-spec : {M : Type 1} → statement M
 check-identification-spec =

@@ -26,19 +26,37 @@ loop-holds c = (omega arith, refl, rw sub-zero)
 
 returns : tie.Need-returns Inv-loop μ-loop
 unfolding loadsCheck badLoad
-returns c = let l = c .before .before .before .before .loop in let a = c .before .before .before .before .before .before .args in let t = badLoad (a .f .now) (a .h) in let b : badLoad (a .f .now) (a .h) (l .i) ≡ true = rw (← c .before .before .header-at .ensures, ← l .inv .1, ← c .before .is-bad-load .ensures) (c .if1 .taken) in sym (faultless-hit 4 t (a .h .count) (l .i) (l .inv .2 ∙ first-hit t (l .i) (a .h .count) (omega arith) b) (omega arith))
+returns c =
+    let l = c .before .before .before .before .loop in
+    let a = c .before .before .before .before .before .before .args in
+    let t = badLoad (a .f .now) (a .h) in
+    let b : badLoad (a .f .now) (a .h) (l .i) ≡ true = rw (← c .before .before .header-at .ensures, ← l .inv .1, ← c .before .is-bad-load .ensures)
+    (c .if1 .taken) in
+    sym (faultless-hit 4 t (a .h .count) (l .i) (l .inv .2 ∙ first-hit t (l .i) (a .h .count) (omega arith) b) (omega arith))
 
 end-after-requires : tie.Need-end-after-requires Inv-loop μ-loop
 end-after-requires c κs = sym (c .before .is-bad-load .ensures) ∙ c .if1 .left
 
 loop-again : tie.Need-loop-again Inv-loop μ-loop
 unfolding badLoad endBefore
-loop-again c = let l = c .before .before .before .before .before .loop in let a = c .before .before .before .before .before .before .before .args in let t = badLoad (a .f .now) (a .h) in let b : badLoad (a .f .now) (a .h) (l .i) ≡ false = rw (← c .before .before .before .header-at .ensures, ← l .inv .1, ← c .before .before .is-bad-load .ensures) (c .before .if1 .left) in (omega arith, rw (add-one, ← c .before .before .before .header-at .ensures, ← l .inv .1) (c .end-after .ensures), l .inv .2 ∙ first-step t (l .i) (a .h .count) (omega arith) b)
+loop-again c =
+    let l = c .before .before .before .before .before .loop in
+    let a = c .before .before .before .before .before .before .before .args in
+    let t = badLoad (a .f .now) (a .h) in
+    let b : badLoad (a .f .now) (a .h) (l .i) ≡ false = rw (← c .before .before .before .header-at .ensures, ← l .inv .1,
+    ← c .before .before .is-bad-load .ensures) (c .before .if1 .left) in
+    (omega arith, rw (add-one, ← c .before .before .before .header-at .ensures, ← l .inv .1) (c .end-after .ensures), l .inv .2 ∙ first-step t (l .i)
+    (a .h .count) (omega arith) b)
 
 returns-2 : tie.Need-returns-2 Inv-loop μ-loop
 unfolding loadsCheck
-returns-2 c = let l = c .before .loop in let a = c .before .before .before .args in let t = badLoad (a .f .now) (a .h) in sym (faultless-none 4 t (a .h .count) (l .inv .2 ∙ first-none t (l .i) (a .h .count) (omega arith) (omega arith)))
+returns-2 c =
+    let l = c .before .loop in
+    let a = c .before .before .before .args in
+    let t = badLoad (a .f .now) (a .h) in
+    sym (faultless-none 4 t (a .h .count) (l .inv .2 ∙ first-none t (l .i) (a .h .count) (omega arith) (omega arith)))
 
 pub check-loads-spec : {M : Type 1} → statement M
 check-loads-spec =
-    tie.close (tie.spec Inv-loop μ-loop loop-holds (search needs) (search needs) (search needs) returns end-after-requires (search needs) (search needs) loop-again returns-2)
+    tie.close (tie.spec Inv-loop μ-loop loop-holds (search needs) (search needs) (search needs) returns end-after-requires (search needs)
+    (search needs) loop-again returns-2)

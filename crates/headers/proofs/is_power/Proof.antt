@@ -17,10 +17,16 @@ abbrev μ-loop : tie.MeasureT-loop
 μ-loop a p₀ n₀ p n = n
 
 returns : tie.Need-returns Inv-loop μ-loop
-returns c = let l = c .before .before .loop in rw (l .inv .2, power-step (l .n) (c .before .before .before .args .a) (omega arith), ← l .inv .1, eq-eqb _ _ (c .if1 .taken))
+returns c =
+    let l = c .before .before .loop in
+    rw (l .inv .2, power-step (l .n) (c .before .before .before .args .a) (omega arith), ← l .inv .1, eq-eqb _ _ (c .if1 .taken))
 
 loop-again : tie.Need-loop-again Inv-loop μ-loop
-loop-again c = let l = c .before .before .loop in let a = c .before .before .before .args .a in (omega arith, half-less (l .n) (l .p) (omega arith) (l .inv .1), rw (l .inv .2, power-step (l .n) a (omega arith), ← l .inv .1, ne-eqb _ _ (c .if1 .left)))
+loop-again c =
+    let l = c .before .before .loop in
+    let a = c .before .before .before .args .a in
+    (omega arith, half-less (l .n) (l .p) (omega arith) (l .inv .1), rw (l .inv .2, power-step (l .n) a (omega arith), ← l .inv .1, ne-eqb _ _
+    (c .if1 .left)))
 
 returns-2 : tie.Need-returns-2 Inv-loop μ-loop
 unfolding powerBelow

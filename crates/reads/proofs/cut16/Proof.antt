@@ -14,7 +14,9 @@ returns c = let a = c .before .before .args in sym (le-past 2 (a .s .now) (a .at
 
 returns-2 : tie.Need-returns-2
 unfolding le
-returns-2 c = let a = c .before .before .before .before .args in omega (arith, le-split 1 1 (a .s .now) (a .at), le-past 1 (a .s .now) (a .at + 1) (omega arith))
+returns-2 c =
+    let a = c .before .before .before .before .args in
+    omega (arith, le-split 1 1 (a .s .now) (a .at), le-past 1 (a .s .now) (a .at + 1) (omega arith))
 
 pub cut16-spec : {M : Type 1} → statement M
 cut16-spec =

@@ -18,7 +18,10 @@ returns-2 c = let a = c .before .before .args in rw (lt-leb (a .a + a .n) (a .st
 
 returns-3 : tie.Need-returns-3
 unfolding covers
-returns-3 c = let a = c .before .before .args in rw (le-leb (a .start) (a .a) (omega arith)) (leb-same (a .a - a .start) (a .size - a .n) (a .a + a .n) (a .start + a .size) (λ h. omega arith) (λ h. omega arith))
+returns-3 c =
+    let a = c .before .before .args in
+    rw (le-leb (a .start) (a .a) (omega arith)) (leb-same (a .a - a .start) (a .size - a .n) (a .a + a .n) (a .start + a .size) (λ h. omega arith)
+    (λ h. omega arith))
 
 pub holds-range-spec : {M : Type 1} → statement M
 holds-range-spec = tie.close (tie.spec returns returns-2 returns-3)

@@ -11,14 +11,21 @@ use Rattle.reads.proofs.part_of.Statement.{statement}
 use Rattle.reads.proofs.part_of.Tie as tie
 
 returns : tie.Need-returns
-returns c = let a = c .before .before .args in let e : drop (a .at) (a .s .now) ≡ [] = drop-of-length-le (a .s .now) {i = a .at} (omega arith) in rw (e, drop-length (a .s .now), take-nil) (sym (take-nil (a .n)))
+returns c =
+    let a = c .before .before .args in
+    let e : drop (a .at) (a .s .now) ≡ [] = drop-of-length-le (a .s .now) {i = a .at} (omega arith) in
+    rw (e, drop-length (a .s .now), take-nil) (sym (take-nil (a .n)))
 
 returns-2 : tie.Need-returns-2
-returns-2 c = let a = c .before .before .before .args in let l : length (drop (a .at) (a .s .now)) ≡ length (a .s .now) - a .at = length-drop (a .at) (a .s .now) in take-all (length (a .s .now) - a .at) (drop (a .at) (a .s .now)) (omega arith) ∙ sym (take-all (a .n) (drop (a .at) (a .s .now)) (omega arith))
+returns-2 c =
+    let a = c .before .before .before .args in
+    let l : length (drop (a .at) (a .s .now)) ≡ length (a .s .now) - a .at = length-drop (a .at) (a .s .now) in
+    take-all (length (a .s .now) - a .at) (drop (a .at) (a .s .now)) (omega arith) ∙ sym (take-all (a .n) (drop (a .at) (a .s .now)) (omega arith))
 
 returns-3 : tie.Need-returns-3
 returns-3 c = let a = c .before .before .before .args in let e : a .at + a .n - a .at ≡ a .n = omega arith in rw e
 
 pub part-of-spec : {M : Type 1} → statement M
 part-of-spec =
-    tie.close (tie.spec (search needs) (search needs) (search needs) returns (search needs) (search needs) (search needs) (search needs) returns-2 (search needs) (search needs) (search needs) (search needs) returns-3)
+    tie.close (tie.spec (search needs) (search needs) (search needs) returns (search needs) (search needs) (search needs) (search needs) returns-2
+    (search needs) (search needs) (search needs) (search needs) returns-3)

@@ -1,0 +1,56 @@
+-- The loop keeps that the first PT_LOAD that backs the bytes is the first from here on.
+-- Assumes nothing.
+use borrow.Author.Tests.{lt-ltb, le-ltb}
+use Rattle.rules.specs.Segments.{backsAt, backer, backingOf}
+use native.Mathlib.Nat.{sub-zero}
+use Rattle.rules.proofs.FirstLaws.{first-step, first-hit, first-none}
+use Rattle.rules.specs.First.{first}
+use mathlib.Core.Path.{_≡_, _∙_}
+use Prim.Native.Nat.{_≤_, _-_}
+use native.Mathlib.Omega.{arith}
+use borrow.Author.Needs.{needs}
+use Rattle.segments.proofs.backing_of.Statement.{statement}
+use Rattle.segments.proofs.backing_of.Tie as tie
+
+abbrev Inv-loop : tie.InvT-loop
+Inv-loop f h a n count i₀ i = (i ≤ count) × (first (backsAt f h a n) 0 count ≡ first (backsAt f h a n) i (count - i))
+
+abbrev μ-loop : tie.MeasureT-loop
+μ-loop f h a n count i₀ i = count - i
+
+loop-holds : tie.Need-loop-holds Inv-loop μ-loop
+loop-holds c = (omega arith, rw sub-zero)
+
+backing-in-requires : tie.Need-backing-in-requires Inv-loop μ-loop
+unfolding backsAt
+backing-in-requires c κs = rw (c .header-at .ensures) (rw (← c .before .before .is-backing-at .ensures) (c .before .if1 .taken))
+
+returns : tie.Need-returns Inv-loop μ-loop
+unfolding backingOf backer
+returns c =
+    let l = c .before .before .before .before .before .loop in
+    let a = c .before .before .before .before .before .before .before .args in
+    let t = backsAt (a .f .now) (a .h) (a .a) (a .n) in
+    let e : first t 0 (a .h .count) ≡ l .i = l .inv .1 ∙ first-hit t (l .i) (a .h .count) (omega arith)
+    (rw (← c .before .before .before .is-backing-at .ensures) (c .before .before .if1 .taken)) in
+    rw (e, lt-ltb (l .i) (a .h .count) (omega arith), ← c .before .header-at .ensures) (c .backing-in .ensures)
+
+loop-again : tie.Need-loop-again Inv-loop μ-loop
+loop-again c =
+    let l = c .before .before .before .loop in
+    let a = c .before .before .before .before .before .args in
+    let t = backsAt (a .f .now) (a .h) (a .a) (a .n) in
+    (omega arith, l .inv .1 ∙ first-step t (l .i) (a .h .count) (omega arith) (rw (← c .before .is-backing-at .ensures) (c .if1 .left)))
+
+returns-2 : tie.Need-returns-2 Inv-loop μ-loop
+unfolding backingOf backer
+returns-2 c =
+    let l = c .before .loop in
+    let a = c .before .before .before .args in
+    let t = backsAt (a .f .now) (a .h) (a .a) (a .n) in
+    let e : first t 0 (a .h .count) ≡ a .h .count = l .inv .1 ∙ first-none t (l .i) (a .h .count) (omega arith) (omega arith) in
+    rw (e, le-ltb (a .h .count) (a .h .count) (omega arith))
+
+pub backing-of-spec : {M : Type 1} → statement M
+backing-of-spec =
+    tie.close (tie.spec Inv-loop μ-loop loop-holds (search needs) (search needs) backing-in-requires returns (search needs) (search needs) loop-again returns-2)

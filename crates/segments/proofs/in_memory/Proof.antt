@@ -1,0 +1,49 @@
+-- The loop keeps that the first PT_LOAD that holds the bytes is the first from here on.
+-- Assumes nothing.
+use Rattle.rules.specs.Segments.{holdsAt, inMemory}
+use native.Mathlib.Nat.{sub-zero}
+use Rattle.rules.proofs.FirstLaws.{first-step, first-hit, first-none, some-hit, some-none}
+use Rattle.rules.specs.First.{first}
+use mathlib.Core.Path.{_≡_, sym, _∙_}
+use Prim.Native.Nat.{_≤_, _-_}
+use native.Mathlib.Omega.{arith}
+use borrow.Author.Needs.{needs}
+use Rattle.segments.proofs.in_memory.Statement.{statement}
+use Rattle.segments.proofs.in_memory.Tie as tie
+
+abbrev Inv-loop : tie.InvT-loop
+Inv-loop f h write a n count i₀ i = (i ≤ count) × (first (holdsAt f h write a n) 0 count ≡ first (holdsAt f h write a n) i (count - i))
+
+abbrev μ-loop : tie.MeasureT-loop
+μ-loop f h write a n count i₀ i = count - i
+
+loop-holds : tie.Need-loop-holds Inv-loop μ-loop
+loop-holds c = (omega arith, rw sub-zero)
+
+returns : tie.Need-returns Inv-loop μ-loop
+unfolding inMemory
+returns c =
+    let l = c .before .before .before .loop in
+    let a = c .before .before .before .before .before .args in
+    let t = holdsAt (a .f .now) (a .h) (a .write) (a .a) (a .n) in
+    sym (some-hit t (a .h .count) (l .i) (omega arith) (l .inv .1 ∙ first-hit t (l .i) (a .h .count) (omega arith)
+    (rw (← c .before .is-holding-at .ensures) (c .if1 .taken))))
+
+loop-again : tie.Need-loop-again Inv-loop μ-loop
+loop-again c =
+    let l = c .before .before .before .loop in
+    let a = c .before .before .before .before .before .args in
+    let t = holdsAt (a .f .now) (a .h) (a .write) (a .a) (a .n) in
+    (omega arith, l .inv .1 ∙ first-step t (l .i) (a .h .count) (omega arith) (rw (← c .before .is-holding-at .ensures) (c .if1 .left)))
+
+returns-2 : tie.Need-returns-2 Inv-loop μ-loop
+unfolding inMemory
+returns-2 c =
+    let l = c .before .loop in
+    let a = c .before .before .before .args in
+    let t = holdsAt (a .f .now) (a .h) (a .write) (a .a) (a .n) in
+    sym (some-none t (a .h .count) (l .inv .1 ∙ first-none t (l .i) (a .h .count) (omega arith) (omega arith)))
+
+pub in-memory-spec : {M : Type 1} → statement M
+in-memory-spec =
+    tie.close (tie.spec Inv-loop μ-loop loop-holds (search needs) returns (search needs) (search needs) loop-again returns-2)
