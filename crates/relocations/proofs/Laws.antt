@@ -1,32 +1,110 @@
--- The walk of checks 10 and 11, one entry at a time.
+-- The walk of checks 10 and 11, one item at a time.
 -- Assumes nothing.
 use Prim.Native.Nat.{ℕ, _+_, _-_, _%_, _≤_, _<_}
-use mathlib.Core.Path.{_≡_, refl, sym, _∙_}
+use mathlib.Core.Path.{_≡_, refl, sym, ap, _∙_}
 use mathlib.Core.Bool.{Bool, true, false, cond, not, _&&_, _||_}
 use mathlib.Core.List.{List}
+use mathlib.Core.Logic.{⊎-elim}
 use native.Mathlib.Omega.{arith}
 use native.Mathlib.Nat.{sub-zero, eq-or-lt-of-le}
-use mathlib.Core.Logic.{⊎-elim}
-use lib.ListN.{length, getD, set}
+use native.Mathlib.Numerals.{add-one}
+use lib.ListN.{length, getD, set, replicate, length-set, length-replicate}
 use lib.Seq.{getD-set-same, getD-set-other}
 use lib.Dec.{eqb}
+use lib.IntN.{ℤ}
 use borrow.Author.Tests.{eq-eqb, ne-eqb, eqb-true, lt-ltb, le-ltb}
-use Rattle.rules.specs.Outcome.{Outcome, good, bad, andThen, refuse}
-use Rattle.rules.specs.First.{first, someBelow}
-use Rattle.rules.specs.Load.{addressOf, outOfRange}
-use Rattle.rules.specs.Relocations.{placeAt, live, targetIn, barred, placeFits, hasPlace, taken, goodPlace, badRelocation, firstBad, relocationsIn, wordsOf, addendAt}
-use Rattle.rules.specs.declared.Headers.{Headers}
-use Rattle.rules.specs.declared.Entry.{Entry}
-use Rattle.rules.specs.declared.Relocations.{Relocations}
+use Rattle.rules.specs.Outcome.{good, bad, refuse}
+use Rattle.rules.specs.Checks.{Check}
+use Rattle.rules.specs.Limits.{entryLimit}
+use Rattle.rules.specs.First.{first, someBelow, countBelow}
+use Rattle.rules.specs.Segments.{inMemory}
+use Rattle.rules.specs.Addresses.{outOfRange, natural, addressAt, badAddress}
+use Rattle.rules.specs.Answers.{inRange}
+use Rattle.rules.specs.Relocations.{placeAt, kindAt, symbolAt, live, items, target, targetAt, barred}
+use Rattle.rules.specs.Relocations.{placeFits, hasPlace, taken, goodPlace, badRelocation, firstBad, relocationsCheck, wordsOf}
+use Rattle.rules.specs.declared.Address.the-variants.{At, Outside}
+use Rattle.rules.specs.declared.Module.{Module}
 use Rattle.rules.specs.declared.Target.{Target}
 use Rattle.rules.specs.declared.Walked.{Walked}
 use Rattle.rules.specs.declared.Refusal.{Refusal}
-use Rattle.rules.proofs.FirstLaws.{first-none, first-same, first-next}
+use Rattle.rules.proofs.FirstLaws.{first-step, first-hit, first-none, first-same, first-next, count-le}
 use Rattle.rules.proofs.OutcomeLaws.{and-left, andThen-good}
-use Rattle.relocations.specs.Addresses.{badAddressIn}
-use Rattle.relocations.specs.Walk.{entryFault, keyAt, hasKey, searchFrom, walkedOf, walkOf}
+use Rattle.laws.proofs.Checks.{andThen-bad}
+use Rattle.segments.specs.Spans.{Sound}
+use Rattle.segments.specs.declared.Span.{Span}
+use Rattle.segments.proofs.SpanLaws.{sound-none}
+use Rattle.relocations.specs.declared.Judged.{Judged}
+use Rattle.relocations.specs.Walk.{itemFault, skippedKey, keyAt, hasKey, searchFrom, Judges, walkedOf, walkOf}
 
--- an entry with a fault is bad, whatever places come before it
+-- ---- one item
+
+-- an address out of range, as the answer tells it
+pub outside-out : (z : ℤ) → inRange z ≡ Outside → outOfRange z ≡ true
+outside-out z e = go (outOfRange z) e
+  where
+    go : (b : Bool) → cond b Outside (At (natural z)) ≡ Outside → b ≡ true
+    go true q = refl
+    go false q = absurd (let z : _≡_ {A = ℕ} 0 1 = cc in omega arith)
+
+pub at-in : (z : ℤ) (a : ℕ) → inRange z ≡ At a → outOfRange z ≡ false
+at-in z a e = go (outOfRange z) e
+  where
+    go : (b : Bool) → cond b Outside (At (natural z)) ≡ At a → b ≡ false
+    go true q = absurd (let z : _≡_ {A = ℕ} 0 1 = cc in omega arith)
+    go false q = refl
+
+-- the target that was looked up, by the fields that were read
+pub target-read : (f : List ℕ) (m : Module) (i kind symbol : ℕ) (t : Target) → kind ≡ kindAt f m i → symbol ≡ symbolAt f m i
+    → t ≡ target f (m .headers) (m .symbols) kind symbol → t ≡ targetAt f m i
+target-read f m i kind symbol t a b e = e ∙ rw (a, b)
+
+module _ (f : List ℕ) (m : Module) (bias i : ℕ) (last : Span) (sound : Sound f (m .headers) true last) where
+  pub judged-skipped : kindAt f m i ≡ 0 → Judges f m bias i (record { number = 0; key = skippedKey; words = 0; outside = false; span = last })
+  unfolding itemFault keyAt badAddress
+  judged-skipped e =
+      let z = eq-eqb (kindAt f m i) 0 e in
+      record { fault = rw z; key = λ _. rw z; words = λ _. rw z; outside = λ _. rw z; sound = sound }
+
+  -- a fault and what stands beside it
+  faulty-judged : (number : ℕ) → (number ≡ 0 → ⊥) → number ≡ itemFault f m i
+      → Judges f m bias i (record { number = number; key = skippedKey; words = 0; outside = true; span = last })
+  faulty-judged number some e = record {
+    fault = e;
+    key = λ z. absurd (some z);
+    words = λ z. absurd (some z);
+    outside = λ z. absurd (some z);
+    sound = sound;
+  }
+
+  pub judged-barred : (kindAt f m i ≡ 0 → ⊥) → barred (targetAt f m i) ≡ true
+      → Judges f m bias i (record { number = 10; key = skippedKey; words = 0; outside = true; span = last })
+  unfolding itemFault
+  judged-barred k b = let z = ne-eqb (kindAt f m i) 0 k in faulty-judged 10 (λ q. omega arith) (rw (z, b))
+
+  pub judged-misfit : (kindAt f m i ≡ 0 → ⊥) → barred (targetAt f m i) ≡ false → placeFits f (m .headers) (placeAt f m i) ≡ false
+      → Judges f m bias i (record { number = 11; key = skippedKey; words = 0; outside = true; span = last })
+  unfolding itemFault
+  judged-misfit k b p = let z = ne-eqb (kindAt f m i) 0 k in faulty-judged 11 (λ q. omega arith) (rw (z, b, p))
+
+  pub judged-good : (outside : Bool) → (kindAt f m i ≡ 0 → ⊥) → barred (targetAt f m i) ≡ false
+      → placeFits f (m .headers) (placeAt f m i) ≡ true → outside ≡ outOfRange (addressAt f m bias i)
+      → Judges f m bias i (record { number = 0; key = placeAt f m i; words = 1; outside = outside; span = last })
+  unfolding itemFault keyAt badAddress
+  judged-good outside k b p o =
+      let z = ne-eqb (kindAt f m i) 0 k in
+      record { fault = rw (z, b, p); key = λ _. rw z; words = λ _. rw z; outside = λ _. rw z o; sound = sound }
+
+-- whether a place fits, by its two tests
+pub fits-odd : (f : List ℕ) (m : Module) (p : ℕ) → (p % 8 ≡ 0 → ⊥) → placeFits f (m .headers) p ≡ false
+unfolding placeFits
+fits-odd f m p h = rw (ne-eqb (p % 8) 0 h)
+
+pub fits-held : (f : List ℕ) (m : Module) (p : ℕ) (b : Bool) → p % 8 ≡ 0 → inMemory f (m .headers) true p 8 ≡ b
+    → placeFits f (m .headers) p ≡ b
+unfolding placeFits
+fits-held f m p b h e = rw (eq-eqb (p % 8) 0 h) e
+
+-- an item with a fault is bad, whatever places come before it
 fault-tests : (l b p t : Bool) (k : ℕ) → cond l (cond b 10 (cond p 0 11)) 0 ≡ k → (k ≡ 0 → ⊥)
     → ((l && (b || not (p && not t))) ≡ true) × (k ≡ cond b 10 11)
 fault-tests false b p t k e z = absurd (z (sym e))
@@ -37,63 +115,62 @@ fault-tests true false false t k e z = (refl, sym e)
 -- one without a fault is bad where it is not skipped and its place is taken; then check 11 refuses it
 clear-tests : (l b p t : Bool) → _≡_ {A = ℕ} (cond l (cond b 10 (cond p 0 11)) 0) 0
     → ((l && (b || not (p && not t))) ≡ (l && t)) × (l ≡ true → b ≡ false) × (l ≡ true → p ≡ true)
-clear-tests false b p t e = (refl, λ h. absurd (let z : _≡_ {A = ℕ} 0 1 = cc in omega arith), λ h. absurd (let z : _≡_ {A = ℕ} 0 1 = cc in omega arith))
+clear-tests false b p t e = (refl, λ h. never h, λ h. never h)
+  where
+    never : {A : Type 0} → false ≡ true → A
+    never h = absurd (let z : _≡_ {A = ℕ} 0 1 = cc in omega arith)
 clear-tests true true p t e = absurd (omega arith)
 clear-tests true false true true e = (refl, λ h. refl, λ h. refl)
 clear-tests true false true false e = (refl, λ h. refl, λ h. refl)
 clear-tests true false false t e = absurd (omega arith)
 
-module _ (f : List ℕ) (h : Headers) (symbols : Entry) (r : Relocations) (i : ℕ) (t : Target) (k : ℕ) where
-  pub fault-bad : t ≡ targetIn f h symbols r i → k ≡ entryFault f h r t i → (k ≡ 0 → ⊥)
-      → (badRelocation f h symbols r i ≡ true) × (k ≡ cond (barred (targetIn f h symbols r i)) 10 11)
-  unfolding entryFault badRelocation goodPlace
-  fault-bad d e z =
-      rw (← d) (fault-tests (live f r i) (barred t) (placeFits f h (placeAt f r i)) (taken f r (placeAt f r i) i) k (sym e) z)
+module _ (f : List ℕ) (m : Module) (i k : ℕ) (e : k ≡ itemFault f m i) where
+  fault-bad : (k ≡ 0 → ⊥) → (badRelocation f m i ≡ true) × (k ≡ cond (barred (targetAt f m i)) 10 11)
+  unfolding itemFault badRelocation goodPlace
+  fault-bad z =
+      fault-tests (live f m i) (barred (targetAt f m i)) (placeFits f (m .headers) (placeAt f m i)) (taken f m (placeAt f m i) i) k (sym e) z
 
-  pub clear-bad : t ≡ targetIn f h symbols r i → k ≡ entryFault f h r t i → k ≡ 0
-      → (badRelocation f h symbols r i ≡ (live f r i && taken f r (placeAt f r i) i))
-      × (live f r i ≡ true → barred (targetIn f h symbols r i) ≡ false)
-      × (live f r i ≡ true → placeFits f h (placeAt f r i) ≡ true)
-  unfolding entryFault badRelocation goodPlace
-  clear-bad d e z =
-      rw (← d) (clear-tests (live f r i) (barred t) (placeFits f h (placeAt f r i)) (taken f r (placeAt f r i) i) (sym e ∙ z))
+  clear-bad : k ≡ 0
+      → (badRelocation f m i ≡ (live f m i && taken f m (placeAt f m i) i))
+      × (live f m i ≡ true → barred (targetAt f m i) ≡ false)
+      × (live f m i ≡ true → placeFits f (m .headers) (placeAt f m i) ≡ true)
+  unfolding itemFault badRelocation goodPlace
+  clear-bad z =
+      clear-tests (live f m i) (barred (targetAt f m i)) (placeFits f (m .headers) (placeAt f m i)) (taken f m (placeAt f m i) i) (sym e ∙ z)
 
--- the keys of the first n entries, as the walk keeps them
-abbrev pub Held : List ℕ → Relocations → List ℕ → ℕ → Type 0
-Held f r keys n = (k : ℕ) → k < n → getD keys k 0 ≡ keyAt f r k
+-- ---- the search for a repeated place
 
-pub held-none : (f : List ℕ) (r : Relocations) (keys : List ℕ) → Held f r keys 0
-held-none f r keys k l = absurd (omega arith)
+-- the keys of the first n items, as the walk keeps them
+abbrev Held : List ℕ → Module → List ℕ → ℕ → Type 0
+Held f m keys n = (k : ℕ) → k < n → getD keys k 0 ≡ keyAt f m k
 
-pub held-more : (f : List ℕ) (r : Relocations) (keys : List ℕ) (n key : ℕ) → Held f r keys n → n < length keys → key ≡ keyAt f r n → Held f r (set keys n key) (n + 1)
-held-more f r keys n key h l e k b =
+held-more : (f : List ℕ) (m : Module) (keys : List ℕ) (n key : ℕ) → Held f m keys n → n < length keys → key ≡ keyAt f m n
+    → Held f m (set keys n key) (n + 1)
+held-more f m keys n key h l e k b =
     ⊎-elim (λ (s : k ≡ n). rw s (getD-set-same keys n key 0 l ∙ e))
     (λ (s : k < n). getD-set-other keys n k key 0 (λ q. omega arith) ∙ h k s)
     (eq-or-lt-of-le (omega arith))
 
--- an earlier entry has a key as what is kept of it has
-module _ (f : List ℕ) (r : Relocations) (keys : List ℕ) (n key j : ℕ) (h : Held f r keys n) (l : j < n) where
-  pub held-hit : getD keys j 0 ≡ key → hasKey f r key j ≡ true
-  unfolding hasKey
-  held-hit e = eq-eqb _ _ (sym (h j l) ∙ e)
-
-  pub held-miss : (getD keys j 0 ≡ key → ⊥) → hasKey f r key j ≡ false
-  unfolding hasKey
-  held-miss e = ne-eqb _ _ (λ q. e (h j l ∙ q))
-
--- a key that is a place that fits is had by the entries of that place
-key-place : (l : Bool) (q p : ℕ) → p % 8 ≡ 0 → eqb (cond l q 1) p ≡ (l && eqb q p)
+-- a key that is a place that fits is had by the items of that place
+key-place : (l : Bool) (q p : ℕ) → p % 8 ≡ 0 → eqb (cond l q skippedKey) p ≡ (l && eqb q p)
 key-place true q p z = refl
-key-place false q p z = ne-eqb 1 p (λ e. omega arith)
+key-place false q p z = ne-eqb skippedKey p (λ e. omega arith)
 
--- the search among the entries before, from where it begins
-pub repeat-start : (t : ℕ → Bool) (key i j : ℕ) → j ≡ searchFrom key i → (j ≤ i) × (cond (eqb key 1) i (first t 0 i) ≡ first t j (i - j))
+-- how far the search among the items before i has come, from where it begins
+pub record Searching (f : List ℕ) (m : Module) (key i j : ℕ) : Type 0 where
+  pub below : j ≤ i
+  pub left : cond (eqb key skippedKey) i (first (hasKey f m key) 0 i) ≡ first (hasKey f m key) j (i - j)
+
+pub search-start : (f : List ℕ) (m : Module) (key i j : ℕ) → j ≡ searchFrom key i → Searching f m key i j
 unfolding searchFrom
-repeat-start t key i j e = go (eqb key 1) e
+search-start f m key i j e = go (eqb key skippedKey) refl e
   where
-    go : (b : Bool) → j ≡ cond b i 0 → (j ≤ i) × (cond b i (first t 0 i) ≡ first t j (i - j))
-    go true d = (omega arith, let g : i ≤ j = omega arith in sym (first-none t j i (omega arith) g))
-    go false d = (omega arith, rw (d, sub-zero))
+    t : ℕ → Bool
+    t = hasKey f m key
+
+    go : (b : Bool) → eqb key skippedKey ≡ b → j ≡ cond b i 0 → Searching f m key i j
+    go true q d = record { below = omega arith; left = let g : i ≤ j = omega arith in rw q (sym (first-none t j i (omega arith) g)) }
+    go false q d = record { below = omega arith; left = rw (q, d, sub-zero) }
 
 repeats-hit : (l : Bool) (t : ℕ → Bool) (i j : ℕ) → cond l (first t 0 i) i ≡ j → j < i → ((l && someBelow t i) ≡ true) × (l ≡ true)
 repeats-hit true t i j e h = (lt-ltb (first t 0 i) i (omega arith), refl)
@@ -103,71 +180,143 @@ repeats-end : (l : Bool) (t : ℕ → Bool) (i : ℕ) → cond l (first t 0 i) i
 repeats-end true t i e = le-ltb (first t 0 i) i (omega arith)
 repeats-end false t i e = refl
 
-module _ (f : List ℕ) (h : Headers) (r : Relocations) (i key : ℕ) (k : key ≡ keyAt f r i)
-    (fits : live f r i ≡ true → placeFits f h (placeAt f r i) ≡ true) where
-  -- an earlier entry of the same key is one of the same place, where the entry is not skipped
-  repeats-same : cond (eqb key 1) i (first (hasKey f r key) 0 i) ≡ cond (live f r i) (first (hasPlace f r (placeAt f r i)) 0 i) i
+module _ (f : List ℕ) (m : Module) (i key : ℕ) (k : key ≡ keyAt f m i)
+    (fits : live f m i ≡ true → placeFits f (m .headers) (placeAt f m i) ≡ true) where
+  -- an earlier item of the same key is one of the same place, where the item is not skipped
+  repeats-same : cond (eqb key skippedKey) i (first (hasKey f m key) 0 i) ≡ cond (live f m i) (first (hasPlace f m (placeAt f m i)) 0 i) i
   unfolding hasKey hasPlace keyAt placeFits
-  repeats-same = go (live f r i) refl k
+  repeats-same = go (live f m i) refl k
     where
-      go : (l : Bool) → live f r i ≡ l → key ≡ cond l (placeAt f r i) 1
-          → cond (eqb key 1) i (first (hasKey f r key) 0 i) ≡ cond l (first (hasPlace f r (placeAt f r i)) 0 i) i
+      go : (l : Bool) → live f m i ≡ l → key ≡ cond l (placeAt f m i) skippedKey
+          → cond (eqb key skippedKey) i (first (hasKey f m key) 0 i) ≡ cond l (first (hasPlace f m (placeAt f m i)) 0 i) i
       go true e d =
-          let z : placeAt f r i % 8 ≡ 0 = eqb-true _ _ (and-left (eqb (placeAt f r i % 8) 0) _ (fits e)) in
-          rw (d, ne-eqb (placeAt f r i) 1 (λ q. omega arith))
-          (first-same (hasKey f r (placeAt f r i)) (hasPlace f r (placeAt f r i)) i 0 (λ j a b. key-place (live f r j) (placeAt f r j) (placeAt f r i) z))
+          let z : placeAt f m i % 8 ≡ 0 = eqb-true _ _ (and-left (eqb (placeAt f m i % 8) 0) _ (fits e)) in
+          rw (d, ne-eqb (placeAt f m i) skippedKey (λ q. omega arith))
+          (first-same (hasKey f m (placeAt f m i)) (hasPlace f m (placeAt f m i)) i 0
+          (λ j a b. key-place (live f m j) (placeAt f m j) (placeAt f m i) z))
       go false e d = rw (d)
 
-  pub repeat-hit : (j : ℕ) → cond (eqb key 1) i (first (hasKey f r key) 0 i) ≡ j → j < i
-      → ((live f r i && taken f r (placeAt f r i) i) ≡ true) × (live f r i ≡ true)
+  repeat-hit : (j : ℕ) → cond (eqb key skippedKey) i (first (hasKey f m key) 0 i) ≡ j → j < i
+      → ((live f m i && taken f m (placeAt f m i) i) ≡ true) × (live f m i ≡ true)
   unfolding taken
-  repeat-hit j e l = repeats-hit (live f r i) (hasPlace f r (placeAt f r i)) i j (sym repeats-same ∙ e) l
+  repeat-hit j e l = repeats-hit (live f m i) (hasPlace f m (placeAt f m i)) i j (sym repeats-same ∙ e) l
 
-  pub repeat-none : cond (eqb key 1) i (first (hasKey f r key) 0 i) ≡ i → (live f r i && taken f r (placeAt f r i) i) ≡ false
+  repeat-none : cond (eqb key skippedKey) i (first (hasKey f m key) 0 i) ≡ i → (live f m i && taken f m (placeAt f m i) i) ≡ false
   unfolding taken
-  repeat-none e = repeats-end (live f r i) (hasPlace f r (placeAt f r i)) i (sym repeats-same ∙ e)
+  repeat-none e = repeats-end (live f m i) (hasPlace f m (placeAt f m i)) i (sym repeats-same ∙ e)
 
--- the first address out of range, one entry on
-pub outside-more : (f : List ℕ) (h : Headers) (symbols : Entry) (r : Relocations) (bias : ℕ) (t : Target) (outside i after : ℕ) (b : Bool)
-    → t ≡ targetIn f h symbols r i → b ≡ (live f r i && outOfRange (addressOf bias t (addendAt f r i)))
-    → outside ≡ first (badAddressIn f h symbols r bias) 0 i → after ≡ cond b outside (cond (eqb outside i) (i + 1) outside)
-    → after ≡ first (badAddressIn f h symbols r bias) 0 (i + 1)
-unfolding badAddressIn
-outside-more f h symbols r bias t outside i after b d e o v =
-    let g : badAddressIn f h symbols r bias i ≡ b = rw (← d) (sym e) in
-    v ∙ rw (first-next (badAddressIn f h symbols r bias) i, g, o)
+-- ---- the walk
 
--- the walk's answer, where it found the first bad entry and where it found none
-module _ (f : List ℕ) (h : Headers) (symbols : Entry) (r : Relocations) (bias : ℕ) where
-  pub walk-hit : (i k : ℕ) → first (badRelocation f h symbols r) 0 (r .entries) ≡ i → i < r .entries
-      → k ≡ cond (barred (targetIn f h symbols r i)) 10 11 → walkOf f h symbols r bias ≡ refuse k i
-  unfolding walkOf relocationsIn firstBad
-  walk-hit i k e l n = rw (e, ne-eqb i (r .entries) (λ q. omega arith), n)
+-- what the walk has found of the items below i
+pub record Walking (f : List ℕ) (m : Module) (bias : ℕ) (keys : List ℕ) (words outside : ℕ) (span : Span) (i : ℕ) : Type 0 where
+  pub below : i ≤ items m
+  pub lowest : first (badRelocation f m) 0 (items m) ≡ first (badRelocation f m) i (items m - i)
+  pub wide : length keys ≡ entryLimit
+  pub held : Held f m keys i
+  pub counted : words ≡ countBelow (live f m) i
+  pub ranged : outside ≡ first (badAddress f m bias) 0 i
+  pub sound : Sound f (m .headers) true span
 
-  pub walk-none : (words outside : ℕ) → first (badRelocation f h symbols r) 0 (r .entries) ≡ r .entries
-      → words ≡ wordsOf f r → outside ≡ first (badAddressIn f h symbols r bias) 0 (r .entries)
-      → walkOf f h symbols r bias ≡ good (record { words = words; outside = outside })
-  unfolding walkOf walkedOf relocationsIn firstBad
-  walk-none words outside e w o = rw (e, eq-eqb (r .entries) (r .entries) refl, w, o)
+pub walking-start : (f : List ℕ) (m : Module) (bias : ℕ) (span : Span) → span .size ≡ 0
+    → Walking f m bias (replicate entryLimit 0) 0 0 span 0
+unfolding first countBelow
+walking-start f m bias span e = record {
+  below = omega arith;
+  lowest = rw sub-zero;
+  wide = length-replicate {A = ℕ} entryLimit 0;
+  held = λ k l. absurd (omega arith);
+  counted = refl;
+  ranged = refl;
+  sound = sound-none f (m .headers) true span e;
+}
 
--- what a walk that passes has found, and the refusal of one that does not
-pub record Walks (f : List ℕ) (h : Headers) (symbols : Entry) (r : Relocations) (bias : ℕ) (w : Walked) : Type 0 where
-  pub passes : relocationsIn f h symbols r ≡ good tt
-  pub words : w .words ≡ wordsOf f r
-  pub outside : w .outside ≡ first (badAddressIn f h symbols r bias) 0 (r .entries)
+module _ (f : List ℕ) (m : Module) (bias : ℕ) (keys : List ℕ) (words outside : ℕ) (span : Span) (i : ℕ)
+    (w : Walking f m bias keys words outside span i) (more : i < items m) (j : Judged) (judged : Judges f m bias i j) where
+  -- the answer, where an item is the first bad one
+  walk-hit : (number : ℕ) → badRelocation f m i ≡ true → number ≡ cond (barred (targetAt f m i)) 10 11 → walkOf f m bias ≡ refuse number i
+  unfolding walkOf relocationsCheck firstBad
+  walk-hit number b n =
+      let e = w .lowest ∙ first-hit (badRelocation f m) i (items m) more b in
+      rw (e, ne-eqb i (items m) (λ q. omega arith), n)
 
-module _ (f : List ℕ) (h : Headers) (symbols : Entry) (r : Relocations) (bias : ℕ) where
-  pub walk-found : (w : Walked) → walkOf f h symbols r bias ≡ good w → Walks f h symbols r bias w
+  -- an item with a fault of its own
+  pub walking-fault : (j .number ≡ 0 → ⊥) → walkOf f m bias ≡ refuse (j .number) i
+  walking-fault some = let b = fault-bad f m i (j .number) (judged .fault) some in walk-hit (j .number) (b .0) (b .1)
+
+  module _ (none : j .number ≡ 0) where
+    -- one step of the search: an earlier item of another key
+    pub searching-next : (k : ℕ) → Searching f m (j .key) i k → k < i → (getD keys k 0 ≡ j .key → ⊥) → Searching f m (j .key) i (k + 1)
+    unfolding hasKey
+    searching-next k s l e = record {
+      below = omega arith;
+      left = s .left ∙ first-step (hasKey f m (j .key)) k i l (ne-eqb _ _ (λ q. e (w .held k l ∙ q)));
+    }
+
+    -- an earlier item of the same key: its place is taken
+    pub walking-repeat : (k : ℕ) → Searching f m (j .key) i k → k < i → getD keys k 0 ≡ j .key → walkOf f m bias ≡ refuse 11 i
+    unfolding hasKey
+    walking-repeat k s l e =
+        let c = clear-bad f m i (j .number) (judged .fault) none in
+        let at = s .left ∙ first-hit (hasKey f m (j .key)) k i l (eq-eqb _ _ (sym (w .held k l) ∙ e)) in
+        let q = repeat-hit f m i (j .key) (judged .key none) (c .2) k at l in
+        walk-hit 11 (c .0 ∙ q .0) (rw (c .1 (q .1)))
+
+    -- no earlier item of the same key: on to the next item
+    pub walking-next : (k : ℕ) → Searching f m (j .key) i k → i ≤ k → i < length keys → (after : ℕ)
+        → after ≡ cond (j .outside) outside (cond (eqb outside i) (i + 1) outside)
+        → Walking f m bias (set keys i (j .key)) (words + j .words) after (j .span) (i + 1)
+    unfolding countBelow
+    walking-next k s l room after a =
+        let c = clear-bad f m i (j .number) (judged .fault) none in
+        let u = s .below in
+        let at = s .left ∙ first-none (hasKey f m (j .key)) k i u l in
+        let q = repeat-none f m i (j .key) (judged .key none) (c .2) at in
+        let o : badAddress f m bias i ≡ j .outside = sym (judged .outside none) in
+        record {
+          below = omega arith;
+          lowest = w .lowest ∙ first-step (badRelocation f m) i (items m) more (c .0 ∙ q);
+          wide = length-set keys i (j .key) ∙ w .wide;
+          held = held-more f m keys i (j .key) (w .held) room (judged .key none);
+          counted = rw (add-one, ← w .counted, ← judged .words none);
+          ranged = a ∙ rw (first-next (badAddress f m bias) i, o, w .ranged);
+          sound = judged .sound;
+        }
+
+    -- the count of words stays small
+    pub words-room : words + j .words ≤ i + 1
+    words-room = go (live f m i) (judged .words none)
+      where
+        go : (b : Bool) → j .words ≡ cond b 1 0 → words + j .words ≤ i + 1
+        go true e = let l = count-le (live f m) i in let c = w .counted in omega arith
+        go false e = let l = count-le (live f m) i in let c = w .counted in omega arith
+
+-- the answer at the end
+pub walking-end : (f : List ℕ) (m : Module) (bias : ℕ) (keys : List ℕ) (words outside : ℕ) (span : Span) (i : ℕ)
+    → Walking f m bias keys words outside span i → items m ≤ i → walkOf f m bias ≡ good (record { words = words; outside = outside })
+unfolding walkOf walkedOf relocationsCheck firstBad wordsOf
+walking-end f m bias keys words outside span i w l =
+    let u = w .below in
+    let e = w .lowest ∙ first-none (badRelocation f m) i (items m) u l in
+    let s : i ≡ items m = omega arith in
+    let c : words ≡ countBelow (live f m) (items m) = w .counted ∙ ap (λ (k : ℕ). countBelow (live f m) k) s in
+    let o : outside ≡ first (badAddress f m bias) 0 (items m) = w .ranged ∙ ap (λ (k : ℕ). first (badAddress f m bias) 0 k) s in
+    rw (e, eq-eqb (items m) (items m) refl, c, o)
+
+-- ---- for callers: what a walk that passes has found, and the refusal of one that does not
+
+pub record Walks (f : List ℕ) (m : Module) (bias : ℕ) (w : Walked) : Type 0 where
+  pub passes : relocationsCheck f m ≡ good tt
+  pub words : w .words ≡ wordsOf f m
+  pub outside : w .outside ≡ first (badAddress f m bias) 0 (items m)
+
+module _ (f : List ℕ) (m : Module) (bias : ℕ) where
+  pub walk-found : (w : Walked) → walkOf f m bias ≡ good w → Walks f m bias w
   unfolding walkOf walkedOf
   walk-found w e =
-      let a = andThen-good (relocationsIn f h symbols r) _ e in
+      let a = andThen-good (relocationsCheck f m) _ e in
       let g = a .rest in
       record { passes = a .here; words = cc; outside = cc }
 
-  pub walk-refused : (q : Refusal) → walkOf f h symbols r bias ≡ bad q → relocationsIn f h symbols r ≡ bad q
+  pub walk-refused : (q : Refusal) → walkOf f m bias ≡ bad q → relocationsCheck f m ≡ bad q
   unfolding walkOf
-  walk-refused q e = go (relocationsIn f h symbols r) e
-    where
-      go : (o : Outcome (Unit {0})) → andThen o (λ _. good (walkedOf f h symbols r bias)) ≡ bad q → o ≡ bad q
-      go (good u) d = absurd (let z : _≡_ {A = ℕ} 0 1 = cc in omega arith)
-      go (bad x) d = cc
+  walk-refused q e = andThen-bad (relocationsCheck f m) _ e (λ r. r) (λ _ _ r. absurd (let z : _≡_ {A = ℕ} 0 1 = cc in omega arith))

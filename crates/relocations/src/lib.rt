@@ -1,72 +1,45 @@
-// Checks 10 and 11: the relocation entries, their kinds, symbols and places; and what check 13 and the facts need of them.
+// Checks 10 and 11: the walk over what is relocated; and what check 13 and the facts need of it.
 ghost use mathlib.Core.Path.{_≡_};
-ghost use mathlib.Core.Bool.{cond, _&&_, _||_};
+ghost use mathlib.Core.Bool.{true};
 ghost use Prim.Native.Nat.{_≤_};
-ghost use lib.Dec.{eqb};
-ghost use Rattle.rules.specs.Relocations.{abs64, globDat, placeAt, kindAt, symbolAt, addendAt, live, symbolBacking, symbolOf, targetOf, namedTarget, target, targetIn, barred, placeFits};
-ghost use Rattle.rules.specs.Load.{addressOf, outOfRange};
+ghost use Rattle.rules.specs.Limits.{entryLimit};
+ghost use Rattle.rules.specs.Relocations.{items};
+ghost use Rattle.rules.specs.Addresses.{addressOf, outOfRange};
 ghost use Rattle.rules.specs.Outcome.{refuse};
 ghost use Rattle.rules.specs.Answers.{ofWalk};
-ghost use Rattle.relocations.specs.Walk.{entryFault, keyAt, searchFrom, walkOf};
+ghost use Rattle.segments.specs.Spans.{Sound};
+ghost use Rattle.relocations.specs.Walk.{skippedKey, searchFrom, Judges, walkOf};
 use rules::Address;
-use rules::Backing;
-use rules::Entry;
-use rules::Headers;
-use rules::MEMORY_LIMIT;
+use rules::ENTRY_LIMIT;
+use rules::Module;
 use rules::Refusal;
-use rules::Relocations;
-use rules::Symbol;
 use rules::Target;
 use rules::WalkAnswer;
 use rules::Walked;
+use segments::NO_SPAN;
+use segments::Span;
 
-// Kept for a skipped entry in the search for a repeated place: no place that fits.
+// Kept for a skipped item in the search for a repeated place: no place that fits.
 const SKIPPED: u64 = 1;
 
-// An entry is not skipped.
-fn is_live(f: &[u8], r: Relocations, i: u32) -> bool
-    ensures { λ v. ⌜ v ≡ live (now (f .entry)) r i ⌝ }
-{
-    kind_at(f, r, i) != 0
+// What is found of one item.
+pub struct Judged {
+    // 0, 10 or 11.
+    pub number: u8,
+    // Its place, or SKIPPED.
+    pub key: u64,
+    // How many words it relocates.
+    pub words: u32,
+    // Its address is out of range.
+    pub outside: bool,
+    // The PT_LOAD found last.
+    pub span: Span,
 }
 
-// A multiple of 8 whose eight bytes are in writable memory.
-fn place_fits(f: &[u8], h: Headers, p: u64) -> bool
-    ensures { λ v. ⌜ v ≡ placeFits (now (f .entry)) h p ⌝ }
+// An address out of range.
+fn is_outside(bias: u64, t: Target, addend: u64) -> bool
+    ensures { λ v. ⌜ v ≡ outOfRange (addressOf bias t addend) ⌝ }
 {
-    if p % 8 != 0 {
-        return false;
-    }
-    headers::in_memory(f, h, true, p, 8)
-}
-
-// Checks 10 and 11 of one entry, but for its place's earlier entries: 0, 10 or 11.
-fn entry_fault(f: &[u8], h: Headers, r: Relocations, t: Target, i: u32) -> u8
-    ensures { λ v. ⌜ v ≡ entryFault (now (f .entry)) h r t i ⌝ }
-{
-    let kind = kind_at(f, r, i);
-    if kind == 0 {
-        return 0;
-    }
-    if is_barred(t) {
-        return 10;
-    }
-    let p = place_at(f, r, i);
-    if place_fits(f, h, p) {
-        return 0;
-    }
-    11
-}
-
-// Check 13 of one entry.
-fn is_bad_address(f: &[u8], r: Relocations, bias: u64, t: Target, i: u32) -> bool
-    ensures { λ v. ⌜ v ≡ (live (now (f .entry)) r i && outOfRange (addressOf bias t (addendAt (now (f .entry)) r i))) ⌝ }
-{
-    let kind = kind_at(f, r, i);
-    if kind == 0 {
-        return false;
-    }
-    let addend = addend_at(f, r, i);
     let a = words::address_of(bias, t, addend);
     let Address::At(_) = a else {
         return true;
@@ -74,16 +47,62 @@ fn is_bad_address(f: &[u8], r: Relocations, bias: u64, t: Target, i: u32) -> boo
     false
 }
 
-// What the search for a repeated place keeps of an entry.
-fn key_at(f: &[u8], r: Relocations, i: u32) -> u64
-    ensures { λ v. ⌜ v ≡ keyAt (now (f .entry)) r i ⌝ }
+// An item with a fault.
+fn faulty(number: u8, last: Span) -> Judged
+    ensures { λ v. ⌜ v ≡ record { number = number; key = skippedKey; words = 0; outside = true; span = last } ⌝ }
 {
-    if is_live(f, r, i) {
-        return place_at(f, r, i);
+    Judged {
+        number: number,
+        key: SKIPPED,
+        words: 0,
+        outside: true,
+        span: last,
     }
-    SKIPPED
 }
 
+// One item, but for the places of the items before it.
+fn judge(f: &[u8], m: Module, bias: u64, last: Span, i: u32) -> Judged
+    requires { ⌜ Sound (now f) (m .headers) true last ⌝ }
+    ensures { λ v. ⌜ Judges (now (f .entry)) m bias i v ⌝ }
+{
+    let r = m.relocations;
+    let kind = items::kind_at(f, r, i);
+    if kind == 0 {
+        return Judged {
+            number: 0,
+            key: SKIPPED,
+            words: 0,
+            outside: false,
+            span: last,
+        };
+    }
+    let h = m.headers;
+    let symbols = m.symbols;
+    let symbol = items::symbol_at(f, r, i);
+    let t = items::find_target(f, h, symbols, kind, symbol);
+    if items::is_barred(t) {
+        return faulty(10, last);
+    }
+    let place = items::place_at(f, r, i);
+    if place % 8 != 0 {
+        return faulty(11, last);
+    }
+    let span = segments::hold(f, h, true, last, place, 8);
+    if span.size == 0 {
+        return faulty(11, last);
+    }
+    let addend = items::addend_at(f, r, i);
+    let outside = is_outside(bias, t, addend);
+    Judged {
+        number: 0,
+        key: place,
+        words: 1,
+        outside: outside,
+        span: span,
+    }
+}
+
+// A skipped item is compared with none.
 fn search_from(key: u64, i: usize) -> usize
     ensures { λ v. ⌜ v ≡ searchFrom key i ⌝ }
 {
@@ -91,12 +110,6 @@ fn search_from(key: u64, i: usize) -> usize
         return i;
     }
     0
-}
-
-fn one_if(b: bool) -> u32
-    ensures { λ v. ⌜ (v ≡ cond b 1 0) × (v ≤ 1) ⌝ }
-{
-    if b { 1 } else { 0 }
 }
 
 fn refused(number: u8, i: u32) -> WalkAnswer
@@ -109,31 +122,25 @@ fn refused(number: u8, i: u32) -> WalkAnswer
     WalkAnswer::Refused(r)
 }
 
-// Checks 10 and 11: the entries in table order, each against the places of the entries before it. The same walk counts the
-// words and finds the first address out of range, which is refused later.
-pub fn check_relocations(
-    f: &[u8],
-    h: Headers,
-    symbols: Entry,
-    r: Relocations,
-    bias: u64,
-) -> WalkAnswer
-    requires { ⌜ r .entries ≤ 1024 ⌝ }
-    ensures { λ v. ⌜ ofWalk v ≡ walkOf (now (f .entry)) h symbols r bias ⌝ }
+// Checks 10 and 11: the items in table order, each against the places of the items before it. The same walk counts the words and
+// finds the first address out of range, which is refused later.
+pub fn check_relocations(f: &[u8], m: Module, bias: u64) -> WalkAnswer
+    requires { ⌜ items m ≤ entryLimit ⌝ }
+    ensures { λ v. ⌜ ofWalk v ≡ walkOf (now (f .entry)) m bias ⌝ }
 {
-    let n = r.entries;
-    // The places of the entries so far.
-    let mut keys = [0u64; 1024];
+    let n = m.relocations.entries;
+    // The places of the items so far.
+    let mut keys = [0u64; ENTRY_LIMIT];
     let mut words: u32 = 0;
     let mut outside: u32 = 0;
+    let mut span = NO_SPAN;
     let mut i: u32 = 0;
     'entries: while i < n {
-        let t = target_at(f, h, symbols, r, i);
-        let number = entry_fault(f, h, r, t, i);
-        if number != 0 {
-            return refused(number, i);
+        let e = judge(f, m, bias, span, i);
+        if e.number != 0 {
+            return refused(e.number, i);
         }
-        let key = key_at(f, r, i);
+        let key = e.key;
         let end = i as usize;
         let mut j = search_from(key, end);
         while j < end {
@@ -143,8 +150,9 @@ pub fn check_relocations(
             j += 1;
         }
         keys[end] = key;
-        words += one_if(is_live(f, r, i));
-        outside = reads::first_after(outside, i, is_bad_address(f, r, bias, t, i));
+        words += e.words;
+        outside = reads::first_after(outside, i, e.outside);
+        span = e.span;
         i += 1;
     }
     if i < n {

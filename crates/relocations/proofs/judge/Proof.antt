@@ -1,0 +1,107 @@
+-- Each test of the item is the rule's, on the fields that were read.
+-- Assumes nothing.
+use Prim.Native.Nat.{_<_}
+use mathlib.Core.Path.{_≡_, sym, _∙_}
+use mathlib.Core.Bool.{true, false}
+use native.Mathlib.Omega.{arith}
+use Rattle.rules.specs.Relocations.{targetAt, barred}
+use Rattle.relocations.proofs.Laws.{target-read, judged-skipped, judged-barred, judged-misfit, judged-good, fits-odd, fits-held}
+use borrow.Author.Needs.{needs}
+use Rattle.relocations.proofs.judge.Statement.{statement}
+use Rattle.relocations.proofs.judge.Tie as tie
+
+returns : tie.Need-returns
+returns c =
+    let K = c .before in
+    let S = K .before .before .before in
+    let a = S .args in
+    judged-skipped (a .f .now) (a .m) (a .bias) (a .i) (a .last) (S .pre) (sym (K .kind-at .ensures) ∙ c .if1 .taken)
+
+returns-2 : tie.Need-returns-2
+returns-2 c =
+    let B = c .before .before in
+    let F = B .before in
+    let Y = F .before in
+    let E = Y .before .before in
+    let K = E .before in
+    let S = K .before .before .before in
+    let a = S .args in
+    let t = target-read (a .f .now) (a .m) (a .i) _ _ _ (K .kind-at .ensures) (Y .symbol-at .ensures) (F .find-target .ensures) in
+    let b : barred (targetAt (a .f .now) (a .m) (a .i)) ≡ true = rw (← t, ← B .is-barred .ensures) (c .before .if2 .taken) in
+    rw (c .faulty .ensures)
+    (judged-barred (a .f .now) (a .m) (a .bias) (a .i) (a .last) (S .pre) (λ z. E .if1 .left (K .kind-at .ensures ∙ z)) b)
+
+returns-3 : tie.Need-returns-3
+returns-3 c =
+    let P = c .before .before in
+    let L = P .before in
+    let B = L .before in
+    let F = B .before in
+    let Y = F .before in
+    let E = Y .before .before in
+    let K = E .before in
+    let S = K .before .before .before in
+    let a = S .args in
+    let t = target-read (a .f .now) (a .m) (a .i) _ _ _ (K .kind-at .ensures) (Y .symbol-at .ensures) (F .find-target .ensures) in
+    let b : barred (targetAt (a .f .now) (a .m) (a .i)) ≡ false = rw (← t, ← B .is-barred .ensures) (L .if2 .left) in
+    rw (c .faulty2 .ensures)
+    (judged-misfit (a .f .now) (a .m) (a .bias) (a .i) (a .last) (S .pre) (λ z. E .if1 .left (K .kind-at .ensures ∙ z)) b
+    (rw (← P .place-at .ensures) (fits-odd (a .f .now) (a .m) (P .place-at .result) (c .before .if3 .taken))))
+
+hold-requires : tie.Need-hold-requires
+hold-requires c κs =
+    let B = c .before .before .before in
+    let K = B .before .before .before .before .before in
+    let S = K .before .before .before in
+    (omega arith, S .pre)
+
+returns-4 : tie.Need-returns-4
+returns-4 c =
+    let O = c .before .before .before in
+    let G = O .before in
+    let P = G .before in
+    let L = P .before in
+    let B = L .before in
+    let F = B .before in
+    let Y = F .before in
+    let E = Y .before .before in
+    let K = E .before in
+    let S = K .before .before .before in
+    let a = S .args in
+    let t = target-read (a .f .now) (a .m) (a .i) _ _ _ (K .kind-at .ensures) (Y .symbol-at .ensures) (F .find-target .ensures) in
+    let b : barred (targetAt (a .f .now) (a .m) (a .i)) ≡ false = rw (← t, ← B .is-barred .ensures) (L .if2 .left) in
+    let out = O .hold .ensures .none (c .before .if4 .taken) in
+    rw (c .faulty3 .ensures)
+    (judged-misfit (a .f .now) (a .m) (a .bias) (a .i) (a .last) (S .pre) (λ z. E .if1 .left (K .kind-at .ensures ∙ z)) b
+    (rw (← P .place-at .ensures) (fits-held (a .f .now) (a .m) (P .place-at .result) false (G .if3 .left) out)))
+
+returns-5 : tie.Need-returns-5
+returns-5 c =
+    let A = c .before in
+    let Z = A .before in
+    let O = Z .before .before in
+    let G = O .before in
+    let P = G .before in
+    let L = P .before in
+    let B = L .before in
+    let F = B .before in
+    let Y = F .before in
+    let E = Y .before .before in
+    let K = E .before in
+    let S = K .before .before .before in
+    let a = S .args in
+    let t = target-read (a .f .now) (a .m) (a .i) _ _ _ (K .kind-at .ensures) (Y .symbol-at .ensures) (F .find-target .ensures) in
+    let b : barred (targetAt (a .f .now) (a .m) (a .i)) ≡ false = rw (← t, ← B .is-barred .ensures) (L .if2 .left) in
+    let full : 0 < O .hold .result .size = omega arith in
+    let held = O .hold .ensures .some full in
+    rw (P .place-at .ensures)
+    (judged-good (a .f .now) (a .m) (a .bias) (a .i) (O .hold .result) (O .hold .ensures .sound) (c .is-outside .result)
+    (λ z. E .if1 .left (K .kind-at .ensures ∙ z)) b
+    (rw (← P .place-at .ensures) (fits-held (a .f .now) (a .m) (P .place-at .result) true (G .if3 .left) held))
+    (c .is-outside .ensures ∙ rw (t, A .addend-at .ensures)))
+
+pub judge-spec : {M : Type 1} → statement M
+judge-spec =
+    tie.close
+    (tie.spec (search needs) returns (search needs) (search needs) (search needs) (search needs) returns-2 (search needs) (search needs) returns-3
+    hold-requires (search needs) returns-4 (search needs) (search needs) returns-5)
