@@ -71,9 +71,10 @@ module _ (f : List ℕ) (bias n p : ℕ) (choices : List ℕ) (m : Module) where
   pub passes-fits : Passes f bias n p choices m → (memoryFits (loadsEnd f (m .headers)) n bias ≡ true) × (planeFits n p ≡ true)
   unfolding lendingCheck lendingFits
   passes-fits c =
-      let fits = require-held (memoryFits (loadsEnd f (m .headers)) n bias && planeFits n p) 12 0 (c .lends) in
-      (and-left (memoryFits (loadsEnd f (m .headers)) n bias) (planeFits n p) fits,
-      and-right (memoryFits (loadsEnd f (m .headers)) n bias) (planeFits n p) fits)
+      let fits = require-held (memoryFits (loadsEnd f (m .headers)) n bias && planeFits n p) 12 0 (c .lends) in (
+        and-left (memoryFits (loadsEnd f (m .headers)) n bias) (planeFits n p) fits,
+        and-right (memoryFits (loadsEnd f (m .headers)) n bias) (planeFits n p) fits,
+      )
 
 -- l is what a load of a module that passes leaves
 pub record Taken (f : List ℕ) (bias n p : ℕ) (choices : List ℕ) (l : Loaded) : Type 0 where
