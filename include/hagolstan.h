@@ -24,7 +24,14 @@ extern "C" {
 uint64_t hagolstan_examine(const uint8_t *file, size_t file_length);
 
 /* The facts of a module file that hagolstan_examine takes, in one number; 0 where it refuses the file.
- * HAGOLSTAN_MODE and the macros after it take the number apart. */
+ *   bit 0           1: the file is taken
+ *   bits 2 to 3     mode
+ *   bits 4 to 5     heap
+ *   bits 6 to 7     stack
+ *   bits 8 to 24    number of globals
+ *   bits 25 to 41   words relocated
+ *   bits 42 to 58   kept for a later count
+ * Every other bit, and the kept ones today, are 0. HAGOLSTAN_MODE and the macros after it take the number apart. */
 uint64_t hagolstan_facts(const uint8_t *file, size_t file_length);
 
 /* Loads a module: checks 1 to 14, and only then writes.
@@ -59,8 +66,8 @@ uint64_t hagolstan_step(const uint8_t *table, size_t table_length, uint64_t posi
 #define HAGOLSTAN_MODE(facts) ((unsigned)((facts) >> 2 & 3))         /* 0 absent, 1 synchronous, 2 asynchronous */
 #define HAGOLSTAN_HEAP(facts) ((unsigned)((facts) >> 4 & 3))         /* 0 absent, 1 off, 2 on */
 #define HAGOLSTAN_STACK(facts) ((unsigned)((facts) >> 6 & 3))        /* 0 absent, 1 off, 2 on */
-#define HAGOLSTAN_GLOBALS(facts) ((unsigned)((facts) >> 16 & 0xffff))
-#define HAGOLSTAN_WORDS(facts) ((unsigned)((facts) >> 32 & 0xffff))  /* words relocated */
+#define HAGOLSTAN_GLOBALS(facts) ((unsigned)((facts) >> 8 & 0x1ffff))
+#define HAGOLSTAN_WORDS(facts) ((unsigned)((facts) >> 25 & 0x1ffff)) /* words relocated */
 
 #ifdef __cplusplus
 }

@@ -153,10 +153,10 @@ class Loader:
 
 
 def facts_of(m):
-    """The number of hagolstan_facts, by the macros of the header: 1, mode, heap, stack, globals, words."""
+    """The number of hagolstan_facts, by the layout in the header: 1, mode, heap, stack, globals, words."""
     switch = lambda v: 0 if v is None else v + 1
     return (1 + (switch(m.tag(MODE)) << 2) + (switch(m.tag(HEAP)) << 4) + (switch(m.tag(STACK)) << 6)
-            + (len(m.globals()) << 16) + (sum(1 for r in m.rela if r[1]) << 32))
+            + (len(m.globals()) << 8) + (sum(1 for r in m.rela if r[1]) << 25))
 
 
 def choose(count):

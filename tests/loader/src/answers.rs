@@ -12,7 +12,8 @@ pub fn packed(answer: &Result<Facts, Refusal>) -> u64 {
     }
 }
 
-/// 0 where examine refuses, else 1 and the facts.
+/// 0 where examine refuses. Else bit 0 is set; mode, heap and stack have two bits each from bit 2 on,
+/// globals and words 17 bits each from bits 8 and 25 on.
 pub fn packed_facts(answer: &Result<Facts, Refusal>) -> u64 {
     let Ok(facts) = answer else { return 0 };
     let mode = match facts.mode {
@@ -28,8 +29,8 @@ pub fn packed_facts(answer: &Result<Facts, Refusal>) -> u64 {
     1 + 4 * mode
         + 16 * switch(facts.heap)
         + 64 * switch(facts.stack)
-        + (facts.globals << 16)
-        + (facts.words << 32)
+        + (facts.globals << 8)
+        + (facts.words << 25)
 }
 
 /// The arguments of one load; the buffers are filled by a pattern before it.

@@ -9,6 +9,7 @@ use std::time::{Duration, Instant};
 pub const SIZES: [usize; 3] = [16 << 10, 256 << 10, 1 << 20];
 
 const SYMBOLS: usize = 32;
+const PAGE: u64 = 4_096;
 
 fn put(file: &mut [u8], at: usize, words: &[u64]) {
     for (i, word) in words.iter().enumerate() {
@@ -37,45 +38,16 @@ fn image_of(size: usize, relocations: usize, globals: usize) -> Call {
         let distance = if i == 0 { 0 } else { (global_step - 96) / 16 };
         descriptors.extend(uleb((distance as u64) << 3 | 6, 1));
     }
-
-    let dynamic_at = 64 + 2 * 56;
-    let entries = 11;
-    let symbols_at = dynamic_at + 16 * entries;
-    let relocations_at = symbols_at + 24 * SYMBOLS;
-    let descriptors_at = relocations_at + 24 * relocations;
-
-    let dynamic = [
-        (6, symbols_at as u64),
-        (11, 24),
-        (7, relocations_at as u64),
-        (8, 24 * relocations as u64),
-        (9, 24),
-        (0x7000_0009, 0),
-        (0x7000_000b, 1),
-        (0x7000_000c, 1),
-        (0x7000_000d, descriptors_at as u64),
-        (0x7000_000f, descriptors.len() as u64),
-        (0, 0),
-    ];
     // Words in places first: tables may lie over them.
     for i in 0..relocations {
         put(&mut file, i * place_step + 8, &[[0, 0u64.wrapping_sub(16)][i % 2]]);
     }
-    file[..7].copy_from_slice(&[0x7f, 0x45, 0x4c, 0x46, 2, 1, 1]);
-    put(&mut file, 16, &[3 | 183 << 16 | 1 << 32, 0, 64, 0, 0]);
-    put(&mut file, 48, &[56 << 48, 2]);
-    let whole = size as u64;
-    put(&mut file, 64, &[1 | 6 << 32, 0, 0, 0, whole, whole, 4096]);
-    let (at, bytes) = (dynamic_at as u64, 16 * entries as u64);
-    put(&mut file, 64 + 56, &[2 | 6 << 32, at, at, at, bytes, bytes, 8]);
-    for (i, (tag, value)) in dynamic.into_iter().enumerate() {
-        put(&mut file, dynamic_at + 16 * i, &[tag, value]);
-    }
-    for i in 0..SYMBOLS {
+    let symbols = (0..SYMBOLS).map(|_| {
         let value = (r.index(globals) * global_step) as u64 + r.below(96);
-        put(&mut file, symbols_at + 24 * i, &[0x11 << 32 | 1 << 48, value, 8]);
-    }
-    for i in 0..relocations {
+        [0x11 << 32 | 1 << 48, value, 8]
+    });
+    let symbols = symbols.collect();
+    let relocations = (0..relocations).map(|i| {
         let place = (i * place_step + 8) as u64;
         let target = (r.index(globals) * global_step) as u64 + r.below(97);
         let symbol = r.from(1, SYMBOLS as u64 - 1) << 32;
@@ -84,15 +56,66 @@ fn image_of(size: usize, relocations: usize, globals: usize) -> Call {
             1 => (257 | symbol, r.below(16)),
             _ => (1025 | symbol, 0),
         };
-        put(&mut file, relocations_at + 24 * i, &[place, info, addend]);
+        [place, info, addend]
+    });
+    let relocations = relocations.collect();
+    assemble(&mut file, 0, 64 + 2 * 56, &Tables { symbols, relocations, descriptors });
+    call(file, globals)
+}
+
+/// The tables that a module is read by.
+pub(crate) struct Tables {
+    pub symbols: Vec<[u64; 3]>,
+    pub relocations: Vec<[u64; 3]>,
+    pub descriptors: Vec<u8>,
+}
+
+/// Puts headers and tables into a file: some writable PT_LOADs of a page each, one from there to the
+/// file's end, and a PT_DYNAMIC with the tables after it.
+pub(crate) fn assemble(file: &mut [u8], pages: usize, dynamic_at: usize, tables: &Tables) {
+    let entries = 11;
+    let symbols_at = dynamic_at + 16 * entries;
+    let relocations_at = symbols_at + 24 * tables.symbols.len();
+    let descriptors_at = relocations_at + 24 * tables.relocations.len();
+    let dynamic = [
+        (6, symbols_at as u64),
+        (11, 24),
+        (7, relocations_at as u64),
+        (8, 24 * tables.relocations.len() as u64),
+        (9, 24),
+        (0x7000_0009, 0),
+        (0x7000_000b, 1),
+        (0x7000_000c, 1),
+        (0x7000_000d, descriptors_at as u64),
+        (0x7000_000f, tables.descriptors.len() as u64),
+        (0, 0),
+    ];
+    file[..7].copy_from_slice(&[0x7f, 0x45, 0x4c, 0x46, 2, 1, 1]);
+    put(file, 16, &[3 | 183 << 16 | 1 << 32, 0, 64, 0, 0]);
+    put(file, 48, &[56 << 48, pages as u64 + 2]);
+    for i in 0..=pages {
+        let at = i as u64 * PAGE;
+        let bytes = if i < pages { PAGE } else { file.len() as u64 - at };
+        put(file, 64 + 56 * i, &[1 | 6 << 32, at, at, at, bytes, bytes, PAGE]);
     }
-    file[descriptors_at..][..descriptors.len()].copy_from_slice(&descriptors);
+    let (at, bytes) = (dynamic_at as u64, 16 * entries as u64);
+    put(file, 64 + 56 * (pages + 1), &[2 | 6 << 32, at, at, at, bytes, bytes, 8]);
+    for (i, (tag, value)) in dynamic.into_iter().enumerate() {
+        put(file, dynamic_at + 16 * i, &[tag, value]);
+    }
+    put(file, symbols_at, tables.symbols.as_flattened());
+    put(file, relocations_at, tables.relocations.as_flattened());
+    file[descriptors_at..][..tables.descriptors.len()].copy_from_slice(&tables.descriptors);
+}
+
+/// The load of a file into memory of its own length.
+pub(crate) fn call(file: Vec<u8>, globals: usize) -> Call {
     Call {
-        file,
         bias: 0x4000_0000,
-        memory_length: size,
-        plane_length: size / 16,
+        memory_length: file.len(),
+        plane_length: file.len() / 16,
         choices: (0..globals).map(|i| (i % 15 + 1) as u8).collect(),
+        file,
     }
 }
 

@@ -4,6 +4,7 @@ pub mod answers;
 pub mod bench;
 mod bytes;
 pub mod compare;
+pub mod count;
 pub mod crc;
 mod descriptors;
 mod dynamic;

@@ -1,7 +1,7 @@
 //! The bench sheet of document 01.
 
-use loader::answers::Call;
-use loader::{examine, load, step, Facts, Refusal, Step};
+use loader::answers::{packed_facts, Call};
+use loader::{examine, load, step, Facts, Mode, Refusal, Step, Switch};
 
 const BIAS: u64 = 0x4000_0000;
 const TABLE: [u8; 5] = [0x82, 0x10, 0x10, 0x07, 0x01];
@@ -83,6 +83,28 @@ fn descriptors() {
 fn facts() {
     let Facts { globals, words, .. } = examine(&call(BIAS, &TAGS, 0, 0).file).unwrap();
     assert_eq!((globals, words), (3, 1));
+}
+
+/// The layout that the C header gives.
+#[test]
+fn facts_as_a_number() {
+    let most = (1 << 17) - 1;
+    let bare = Facts {
+        mode: Mode::Absent,
+        heap: Switch::Absent,
+        stack: Switch::Absent,
+        globals: 0,
+        words: 0,
+    };
+    let number = |facts| packed_facts(&Ok(facts));
+    assert_eq!(packed_facts(&refused(10, 3)), 0);
+    assert_eq!(number(bare), 1);
+    assert_eq!(number(Facts { mode: Mode::Synchronous, ..bare }), 1 | 1 << 2);
+    assert_eq!(number(Facts { mode: Mode::Asynchronous, ..bare }), 1 | 2 << 2);
+    assert_eq!(number(Facts { heap: Switch::On, ..bare }), 1 | 2 << 4);
+    assert_eq!(number(Facts { stack: Switch::Off, ..bare }), 1 | 1 << 6);
+    assert_eq!(number(Facts { globals: most, ..bare }), 1 | most << 8);
+    assert_eq!(number(Facts { words: most, ..bare }), 1 | most << 25);
 }
 
 #[test]

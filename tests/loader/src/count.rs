@@ -1,0 +1,258 @@
+//! Instructions of a call by item: the images to count on, the rows of the table, and what callgrind
+//! wrote for each call.
+//!
+//! A row is a sum of counts over calls that differ in one thing alone, so all else cancels.
+
+use crate::answers::{Call, Loader};
+use crate::bench::{assemble, call, Tables};
+use crate::generate::module::uleb;
+
+const SIZE: usize = 256 << 10;
+/// Tables, places and globals lie behind the pages that PT_LOADs of their own may take.
+const TABLES: usize = 64 << 10;
+const PLACES: usize = 112 << 10;
+const GLOBALS: usize = 128 << 10;
+const SYMBOLS: usize = 32;
+/// A global of 3 granules, and 2 before it.
+const STEP: usize = 80;
+
+#[derive(Clone, Copy, PartialEq, Eq)]
+enum Form {
+    /// One number in so many bytes, padded.
+    Bytes(usize),
+    /// The size in a second number; a byte each.
+    TwoNumbers,
+}
+
+/// An image by what it has; all images have the same size and the same places for everything.
+#[derive(Clone, Copy, PartialEq, Eq)]
+struct Shape {
+    /// PT_LOADs before the one that holds all.
+    passed: usize,
+    form: Form,
+    globals: usize,
+    /// RELATIVE, or ABS64 with a symbol.
+    symbols: bool,
+    relocations: usize,
+}
+
+const EMPTY: Shape =
+    Shape { passed: 0, form: Form::Bytes(1), globals: 0, symbols: false, relocations: 0 };
+
+fn descriptor(form: Form, distance: u64) -> Vec<u8> {
+    match form {
+        Form::Bytes(bytes) => uleb(distance << 3 | 3, bytes),
+        Form::TwoNumbers => [uleb(distance << 3, 1), uleb(2, 1)].concat(),
+    }
+}
+
+fn image(shape: Shape) -> Call {
+    let mut file = vec![0; SIZE];
+    let mut descriptors = Vec::new();
+    for i in 0..shape.globals {
+        descriptors.extend(match i {
+            0 => descriptor(Form::Bytes(3), GLOBALS as u64 / 16),
+            _ => descriptor(shape.form, 2),
+        });
+    }
+    let target = |i: usize| (GLOBALS + i * STEP) as u64;
+    let symbols = (0..SYMBOLS).map(|i| [0x11 << 32 | 1 << 48, target(i), 8]).collect();
+    let relocations = (0..shape.relocations).map(|i| {
+        let symbol = (1 + i % (SYMBOLS - 1)) as u64;
+        let (info, addend) =
+            if shape.symbols { (257 | symbol << 32, 8) } else { (1027, target(i % MANY)) };
+        [(PLACES + 16 * i) as u64, info, addend]
+    });
+    let relocations = relocations.collect();
+    assemble(&mut file, shape.passed, TABLES, &Tables { symbols, relocations, descriptors });
+    call(file, shape.globals)
+}
+
+#[derive(Clone, Copy, PartialEq, Eq)]
+enum What {
+    Examine,
+    Load,
+}
+
+/// A sum of counts, by the number of items that it is the count of.
+struct Row {
+    name: String,
+    terms: Vec<(i64, What, Shape)>,
+    items: i64,
+}
+
+type Terms = Vec<(i64, What, Shape)>;
+
+/// What the larger shape has more, in one call.
+fn more(what: What, small: Shape, large: Shape) -> Terms {
+    vec![(1, what, large), (-1, what, small)]
+}
+
+fn less(mut terms: Terms, others: Terms) -> Terms {
+    terms.extend(others.into_iter().map(|(n, what, shape)| (-n, what, shape)));
+    terms
+}
+
+/// What the load adds to examine.
+fn beyond(small: Shape, large: Shape) -> Terms {
+    less(more(What::Load, small, large), more(What::Examine, small, large))
+}
+
+/// Numbers of descriptors; a table at its limit would end another way.
+const FEW: usize = 256;
+const MANY: usize = 768;
+/// PT_LOADs that are passed over.
+const PASSED: usize = 8;
+
+fn rows() -> Vec<Row> {
+    use What::Examine;
+    let mut rows = Vec::new();
+    let mut row = |name: &str, items: usize, terms: Terms| {
+        rows.push(Row { name: name.to_owned(), terms, items: items as i64 });
+    };
+    let globals = |form| [FEW, MANY].map(|globals| Shape { form, globals, ..EMPTY });
+    let forms = [
+        ("a descriptor of one byte", Form::Bytes(1)),
+        ("a descriptor of two bytes", Form::Bytes(2)),
+        ("a descriptor of three bytes", Form::Bytes(3)),
+        ("a descriptor of two numbers, a byte each", Form::TwoNumbers),
+    ];
+    for (name, form) in forms {
+        let [small, large] = globals(form);
+        row(&format!("{name}: examine"), MANY - FEW, more(Examine, small, large));
+    }
+    let [small, large] = globals(Form::Bytes(1));
+    row("a descriptor of one byte: the load beyond examine", MANY - FEW, beyond(small, large));
+
+    // The globals that the relocations point into are there whatever the number of relocations.
+    let tables = |symbols, from, to| {
+        [from, to].map(|relocations| Shape { globals: MANY, symbols, relocations, ..EMPTY })
+    };
+    for (name, symbols) in [("a RELATIVE relocation", false), ("an ABS64 with a symbol", true)] {
+        for (from, to) in [(16, 32), (512, 1_024)] {
+            let [small, large] = tables(symbols, from, to);
+            let name = format!("{name}, tables of {from} and {to}: examine");
+            row(&name, to - from, more(Examine, small, large));
+        }
+        let [small, large] = tables(symbols, 512, 1_024);
+        row(&format!("{name}: the load beyond examine"), 512, beyond(small, large));
+    }
+
+    let passing = |small: Shape, large: Shape| {
+        let behind = |shape| Shape { passed: PASSED, ..shape };
+        less(more(Examine, behind(small), behind(large)), more(Examine, small, large))
+    };
+    let [small, large] = globals(Form::Bytes(1));
+    row("a PT_LOAD passed over, a global's lookup", PASSED * (MANY - FEW), passing(small, large));
+    let [small, large] = tables(false, 512, 1_024);
+    let places = passing(small, large);
+    let [small, large] = tables(true, 512, 1_024);
+    let both = passing(small, large);
+    row("a PT_LOAD passed over, a symbol's lookup", PASSED * 512, less(both, places.clone()));
+    row("a PT_LOAD passed over, a place's lookup", PASSED * 512, places);
+    row("the rest of examine, once", 1, vec![(1, Examine, EMPTY)]);
+    rows
+}
+
+/// The function that callgrind counts; it writes a profile each time it is left.
+#[no_mangle]
+#[inline(never)]
+pub fn hagolstan_counted_call(
+    loader: &dyn Loader,
+    whole: bool,
+    call: &Call,
+    memory: &mut [u8],
+    plane: &mut [u8],
+) -> u64 {
+    if whole {
+        loader.load(&call.file, call.bias, memory, plane, &call.choices)
+    } else {
+        loader.examine(&call.file)
+    }
+}
+
+/// Makes every call of the table by both loaders in turn; the number of calls. Panics where an
+/// answer is not the expected one or the loaders leave different bytes.
+pub fn calls(loaders: [&dyn Loader; 2]) -> usize {
+    let terms: Terms = rows().into_iter().flat_map(|row| row.terms).collect();
+    for &(_, what, shape) in &terms {
+        let call = image(shape);
+        let left = loaders.map(|loader| {
+            let mut memory = vec![0xa5; call.memory_length];
+            let mut plane = vec![0x5a; call.plane_length];
+            let whole = what == What::Load;
+            let answer = hagolstan_counted_call(loader, whole, &call, &mut memory, &mut plane);
+            assert_eq!(answer, shape.globals as u64 * 256);
+            (memory, plane)
+        });
+        assert!(left[0] == left[1], "the loaders leave different bytes");
+    }
+    2 * terms.len()
+}
+
+/// The table, from the instructions of each call in order.
+pub fn table(counts: &[i64]) -> Result<String, String> {
+    let rows = rows();
+    let expected = 2 * rows.iter().map(|row| row.terms.len()).sum::<usize>();
+    if counts.len() != expected {
+        return Err(format!("{} calls were counted, {expected} are expected", counts.len()));
+    }
+    let mut text = format!(
+        "Instructions an item, from two tables that differ in length; memset, memcpy and memmove are left out.\n\
+         Where no tables are named they have {FEW} and {MANY} descriptors, or 512 and 1024 relocations. One\n\
+         PT_LOAD holds all, and {PASSED} more come before it where some are passed over.\n\n\
+         | Item | archive | Rust |\n|---|---|---|\n"
+    );
+    let mut pairs = counts.chunks_exact(2);
+    for row in rows {
+        let mut sums = [0; 2];
+        for ((sign, _, _), pair) in row.terms.iter().zip(&mut pairs) {
+            for (sum, count) in sums.iter_mut().zip(pair) {
+                *sum += sign * count;
+            }
+        }
+        let [archive, rust] = sums.map(|sum| sum as f64 / row.items as f64);
+        text += &format!("| {} | {archive:.1} | {rust:.1} |\n", row.name);
+    }
+    Ok(text)
+}
+
+fn left_out(object: &str, function: &str) -> bool {
+    let file = object.rsplit('/').next().unwrap_or(object);
+    file.starts_with("libc.") || file.starts_with("libc-") || {
+        ["memset", "memcpy", "memmove"].iter().any(|name| function.contains(name))
+    }
+}
+
+/// The instructions in one profile of callgrind, written with whole names, without those of memset,
+/// memcpy and memmove. These are the C library's, where they may have no name: all of it is left out.
+pub fn instructions(profile: &str) -> Result<i64, String> {
+    let (mut object, mut function) = ("", "");
+    let (mut counted, mut all, mut total) = (0, 0, None);
+    let mut lines = profile.lines();
+    while let Some(line) = lines.next() {
+        let number =
+            |text: &str| text.trim().parse::<i64>().map_err(|_| format!("bad line: {line}"));
+        match line.split_once('=') {
+            Some(("ob", name)) => object = name,
+            Some(("fn", name)) => function = name,
+            // The line after it has the cost of the function called, which is counted by itself.
+            Some(("calls", _)) => _ = lines.next(),
+            _ => {}
+        }
+        if let Some(value) = line.strip_prefix("totals:") {
+            total = Some(number(value)?);
+        } else if line.starts_with(|c: char| c.is_ascii_digit() || "+-*".contains(c)) {
+            let cost = line.split_once(' ').map_or(Ok(0), |(_, cost)| number(cost))?;
+            all += cost;
+            if !left_out(object, function) {
+                counted += cost;
+            }
+        }
+    }
+    match total {
+        Some(total) if total == all && counted > 0 => Ok(counted),
+        Some(total) => Err(format!("{all} instructions read, {counted} counted, {total} in all")),
+        None => Err("no total".to_owned()),
+    }
+}
