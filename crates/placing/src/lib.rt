@@ -1,30 +1,27 @@
 // Check 12, and the writes to memory: segments placed, words relocated.
 ghost use mathlib.Core.Path.{_≡_};
-ghost use mathlib.Core.Bool.{false, _&&_};
-ghost use Prim.Native.Nat.{_^_, _<_};
 ghost use lib.ListN.{length};
-ghost use Rattle.rules.specs.Outcome.{good, require};
-ghost use Rattle.rules.specs.First.{faultless};
-ghost use Rattle.rules.specs.Bytes.{le};
 ghost use Rattle.rules.specs.Memory.{putWord};
-ghost use Rattle.rules.specs.Load.{memoryFits, planeFits, loadsEnd, putLoad, imageOf, sourceTag, withTag, writes};
+ghost use Rattle.rules.specs.Relocations.{items};
+ghost use Rattle.rules.specs.Segments.{loadsEnd};
+ghost use Rattle.rules.specs.Lending.{memoryFits, planeFits, lendingCheck};
+ghost use Rattle.rules.specs.Image.{putLoad, imageOf};
 ghost use Rattle.rules.specs.Answers.{ofChecked};
-ghost use Rattle.laws.proofs.Writes.{Apart};
-ghost use Rattle.relocations.specs.Addresses.{badAddressIn};
-ghost use Rattle.placing.specs.Words.{wordIn, written};
+ghost use Rattle.placing.specs.Words.{targetWord, written, relocated};
 use rules::ADDRESS_LIMIT;
-use rules::Address;
 use rules::Checked;
-use rules::Entry;
 use rules::GRANULE;
 use rules::Headers;
 use rules::MEMORY_LIMIT;
+use rules::Module;
+use rules::PAGE;
 use rules::Refusal;
-use rules::Relocations;
 use rules::Segment;
 use rules::Target;
+use segments::PT_LOAD;
 
-const PAGE: u64 = 4096;
+// The refusal number of check 12.
+const BAD_LENDING: u8 = 12;
 
 // A tag stands in bits 56 to 59 of a word.
 const TAG_UNIT: u64 = 72057594037927936;
@@ -36,7 +33,7 @@ fn memory_fits(f: &[u8], h: Headers, memory: u64, bias: u64) -> bool
     reads::both(
         memory % GRANULE == 0,
         reads::both(
-            headers::loads_end_within(f, h, memory),
+            segments::loads_end_within(f, h, memory),
             reads::both(
                 memory <= MEMORY_LIMIT,
                 reads::both(
@@ -62,14 +59,15 @@ fn plane_fits(memory: u64, plane: u64) -> bool
 }
 
 // Check 12: the lent memory, the plane and the bias.
-pub fn check_lending(f: &[u8], h: Headers, memory: u64, plane: u64, bias: u64) -> Checked
-    ensures { λ r. ⌜ ofChecked r ≡ require (memoryFits (loadsEnd (now (f .entry)) h) memory bias && planeFits memory plane) 12 0 ⌝ }
+pub fn check_lending(f: &[u8], m: Module, memory: u64, plane: u64, bias: u64) -> Checked
+    ensures { λ r. ⌜ ofChecked r ≡ lendingCheck (now (f .entry)) m bias memory plane ⌝ }
 {
+    let h = m.headers;
     if reads::both(memory_fits(f, h, memory, bias), plane_fits(memory, plane)) {
         return Checked::Passed;
     }
     Checked::Refused(Refusal {
-        number: 12,
+        number: BAD_LENDING,
         position: 0,
     })
 }
@@ -78,7 +76,7 @@ pub fn check_lending(f: &[u8], h: Headers, memory: u64, plane: u64, bias: u64) -
 fn place_segment(f: &[u8], s: Segment, mem: &mut [u8])
     ensures { λ _. ⌜ now (mem .exit) ≡ putLoad (now (f .entry)) s (now (mem .entry)) ⌝ }
 {
-    if s.kind != 1 {
+    if s.kind != PT_LOAD {
         return;
     }
     let bytes = reads::part_of(f, s.offset as usize, s.filesz as usize);
@@ -92,75 +90,49 @@ pub fn place_segments(f: &[u8], h: Headers, mem: &mut [u8])
     memory::fill(mem, 0);
     let count = h.count;
     for i in 0..count {
-        let s = headers::header_at(f, h, i);
+        let s = segments::header_at(f, h, i);
         place_segment(f, s, mem);
     }
 }
 
-// A word is written at a place: its address, and the tag of its source over what the place holds.
-fn write_word(
-    plane: &[u8],
-    bias: u64,
-    t: Target,
-    addend: u64,
-    address: u64,
-    place: usize,
-    mem: &mut [u8],
-)
-    requires { ⌜ address < 2 ^ 48 ⌝ }
-    ensures { λ _. ⌜ now (mem .exit) ≡ putWord (now (mem .entry)) place (withTag address (sourceTag (now (plane .entry)) bias (length (now (mem .entry))) t addend (le 8 (now (mem .entry)) place))) ⌝ }
+// A target's word is written at a place: its address modulo 2^64, and the tag of its source over what the place holds.
+fn write_word(plane: &[u8], bias: u64, t: Target, addend: u64, place: usize, mem: &mut [u8])
+    ensures { λ _. ⌜ now (mem .exit) ≡ putWord (now (mem .entry)) place (targetWord (now (plane .entry)) bias (now (mem .entry)) t addend place) ⌝ }
 {
     let loaded = reads::read64(mem, place);
     let tag = words::source_tag(plane, bias, mem.len() as u64, t, addend, loaded);
-    memory::put64(mem, place, address + TAG_UNIT * (tag as u64));
+    let bare = words::bare_word(bias, t, addend);
+    memory::put64(
+        mem,
+        place,
+        std::num::wrapping_add_u64(bare, TAG_UNIT * (tag as u64)),
+    );
 }
 
-// One entry's word, unless the entry is skipped.
-fn relocate_entry(
-    f: &[u8],
-    h: Headers,
-    symbols: Entry,
-    r: Relocations,
-    bias: u64,
-    plane: &[u8],
-    i: u32,
-    mem: &mut [u8],
-)
-    requires { ⌜ badAddressIn (now f) h symbols r bias i ≡ false ⌝ }
-    ensures { λ _. ⌜ now (mem .exit) ≡ written (now (f .entry)) h symbols r bias (now (plane .entry)) (now (mem .entry)) i ⌝ }
+// One item's word, unless the item is skipped.
+fn relocate_item(f: &[u8], m: Module, bias: u64, plane: &[u8], i: u32, mem: &mut [u8])
+    ensures { λ _. ⌜ now (mem .exit) ≡ written (now (f .entry)) m bias (now (plane .entry)) (now (mem .entry)) i ⌝ }
 {
-    let kind = relocations::kind_at(f, r, i);
+    let r = m.relocations;
+    let kind = items::kind_at(f, r, i);
     if kind == 0 {
         return;
     }
-    let symbol = relocations::symbol_at(f, r, i);
-    let t = relocations::find_target(f, h, symbols, kind, symbol);
-    let addend = relocations::addend_at(f, r, i);
-    let found = words::address_of(bias, t, addend);
-    // Never otherwise, by check 13.
-    let Address::At(address) = found else {
-        return;
-    };
-    let place = relocations::place_at(f, r, i);
-    write_word(plane, bias, t, addend, address, place as usize, mem);
+    let h = m.headers;
+    let symbols = m.symbols;
+    let symbol = items::symbol_at(f, r, i);
+    let t = items::find_target(f, h, symbols, kind, symbol);
+    let addend = items::addend_at(f, r, i);
+    let place = items::place_at(f, r, i);
+    write_word(plane, bias, t, addend, place as usize, mem);
 }
 
-// The words of the entries not skipped, in table order. A place is read before its own write, so it holds what was loaded.
-pub fn relocate(
-    f: &[u8],
-    h: Headers,
-    symbols: Entry,
-    r: Relocations,
-    bias: u64,
-    plane: &[u8],
-    mem: &mut [u8],
-)
-    requires { ⌜ Apart (now f) r (length (now mem)) (r .entries) ⌝ }
-    requires { ⌜ faultless 13 (badAddressIn (now f) h symbols r bias) (r .entries) ≡ good tt ⌝ }
-    ensures { λ _. ⌜ now (mem .exit) ≡ writes (now (f .entry)) r (wordIn (now (f .entry)) h symbols r bias (now (mem .entry)) (now (plane .entry))) (now (mem .entry)) (r .entries) ⌝ }
+// The words of the items not skipped, in their order. A place is read before its own write.
+pub fn relocate(f: &[u8], m: Module, bias: u64, plane: &[u8], mem: &mut [u8])
+    ensures { λ _. ⌜ now (mem .exit) ≡ relocated (now (f .entry)) m bias (now (plane .entry)) (now (mem .entry)) (items m) ⌝ }
 {
-    let entries = r.entries;
+    let entries = m.relocations.entries;
     for i in 0..entries {
-        relocate_entry(f, h, symbols, r, bias, plane, i, mem);
+        relocate_item(f, m, bias, plane, i, mem);
     }
 }

@@ -1,15 +1,18 @@
 -- Memory and plane are judged, and both must fit.
 -- Assumes nothing.
 use borrow.Author.Needs.{needs}
+use Rattle.rules.specs.Lending.{lendingCheck, lendingFits}
 use Rattle.placing.proofs.check_lending.Statement.{statement}
 use Rattle.placing.proofs.check_lending.Tie as tie
 
 returns : tie.Need-returns
+unfolding lendingCheck lendingFits
 returns c =
     let P = c .before .before in
     rw (← P .before .memory-fits .ensures, ← P .plane-fits .ensures, ← c .before .both .ensures, c .if1 .taken)
 
 returns-2 : tie.Need-returns-2
+unfolding lendingCheck lendingFits
 returns-2 c =
     let P = c .before .before in
     rw (← P .before .memory-fits .ensures, ← P .plane-fits .ensures, ← c .before .both .ensures, c .if1 .left)

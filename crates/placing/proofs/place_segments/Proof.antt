@@ -4,7 +4,7 @@ use lib.ListN.{length}
 use Prim.Native.Nat.{_≤_, _-_}
 use mathlib.Core.Path.{_≡_, refl, _∙_}
 use native.Mathlib.Numerals.{add-one}
-use Rattle.rules.specs.Load.{loadsOver}
+use Rattle.rules.specs.Image.{loadsOver}
 use native.Mathlib.Omega.{arith}
 use borrow.Author.Needs.{needs}
 use Rattle.placing.proofs.place_segments.Statement.{statement}
