@@ -2,7 +2,7 @@
 ghost use mathlib.Core.Path.{_≡_};
 ghost use Prim.Native.Nat.{_<_};
 ghost use Rattle.rules.specs.First.{faultless, someBelow};
-ghost use Rattle.rules.specs.Dynamic.{tagAt, valueAt, knownTags, rowAt, allows, isRow, rowOf, hasTagAt, tagBefore, badEntry, hasTag};
+ghost use Rattle.rules.specs.Dynamic.{tagAt, valueAt, knownTags, rowAt, allows, rowOf, tagBefore, badEntry, hasTag};
 ghost use Rattle.rules.specs.Dynamic.{partnerless, entriesCheck, entryOf};
 ghost use Rattle.rules.specs.Answers.{ofChecked};
 use rules::Allowed;
@@ -116,20 +116,13 @@ fn is_allowed(a: Allowed, v: u64) -> bool
     }
 }
 
-fn is_row(tag: u64, r: usize) -> bool
-    requires { ⌜ r < 13 ⌝ }
-    ensures { λ b. ⌜ b ≡ isRow knownTags tag r ⌝ }
-{
-    let k = row_at(r);
-    k.tag == tag
-}
-
 // The row of a tag, or how many rows there are.
 fn row_of(tag: u64) -> usize
     ensures { λ r. ⌜ r ≡ rowOf knownTags tag ⌝ }
 {
     for r in 0..ROWS {
-        if is_row(tag, r) {
+        let k = row_at(r);
+        if k.tag == tag {
             return r;
         }
     }
@@ -148,18 +141,12 @@ fn value_at(f: &[u8], d: Dynamic, i: u32) -> u64
     reads::read64(f, d.at as usize + 16 * (i as usize) + 8)
 }
 
-fn has_tag_at(f: &[u8], d: Dynamic, tag: u64, i: u32) -> bool
-    ensures { λ r. ⌜ r ≡ hasTagAt (now (f .entry)) d tag i ⌝ }
-{
-    tag_at(f, d, i) == tag
-}
-
 // The first of the first n entries that has a tag, or n.
 fn tag_before(f: &[u8], d: Dynamic, tag: u64, n: u32) -> u32
     ensures { λ r. ⌜ r ≡ tagBefore (now (f .entry)) d tag n ⌝ }
 {
     for i in 0..n {
-        if has_tag_at(f, d, tag, i) {
+        if tag_at(f, d, i) == tag {
             return i;
         }
     }

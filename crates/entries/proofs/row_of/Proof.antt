@@ -7,6 +7,7 @@ use mathlib.Core.Path.{_≡_, sym, _∙_}
 use Prim.Native.Nat.{_≤_, _-_}
 use native.Mathlib.Omega.{arith}
 use borrow.Author.Needs.{needs}
+use borrow.Author.Tests.{eq-eqb, ne-eqb}
 use Rattle.entries.proofs.row_of.Statement.{statement}
 use Rattle.entries.proofs.row_of.Tie as tie
 
@@ -17,19 +18,20 @@ abbrev μ-loop : tie.MeasureT-loop
 μ-loop tag r₀ r = 13 - r
 
 returns : tie.Need-returns Inv-loop μ-loop
-unfolding rowOf
+unfolding rowOf isRow
 returns c =
-    let l = c .before .before .before .loop in
-    let a = c .before .before .before .before .args in
+    let l = c .before .before .before .before .loop in
+    let a = c .before .before .before .before .before .args in
     let t = isRow knownTags (a .tag) in
-    sym (l .inv .1 ∙ first-hit t (l .r) 13 (omega arith) (sym (c .before .is-row .ensures) ∙ c .if1 .taken))
+    sym (l .inv .1 ∙ first-hit t (l .r) 13 (omega arith) (rw (← c .before .before .row-at .ensures) (eq-eqb _ _ (c .if1 .taken))))
 
 loop-again : tie.Need-loop-again Inv-loop μ-loop
+unfolding isRow
 loop-again c =
-    let l = c .before .before .before .loop in
-    let a = c .before .before .before .before .args in
+    let l = c .before .before .before .before .loop in
+    let a = c .before .before .before .before .before .args in
     let t = isRow knownTags (a .tag) in
-    (omega arith, l .inv .1 ∙ first-step t (l .r) 13 (omega arith) (sym (c .before .is-row .ensures) ∙ c .if1 .left))
+    (omega arith, l .inv .1 ∙ first-step t (l .r) 13 (omega arith) (rw (← c .before .before .row-at .ensures) (ne-eqb _ _ (c .if1 .left))))
 
 returns-2 : tie.Need-returns-2 Inv-loop μ-loop
 unfolding rowOf

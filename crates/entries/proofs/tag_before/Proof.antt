@@ -8,6 +8,7 @@ use mathlib.Core.Path.{_≡_, sym, _∙_}
 use Prim.Native.Nat.{_≤_, _-_}
 use native.Mathlib.Omega.{arith}
 use borrow.Author.Needs.{needs}
+use borrow.Author.Tests.{eq-eqb, ne-eqb}
 use Rattle.entries.proofs.tag_before.Statement.{statement}
 use Rattle.entries.proofs.tag_before.Tie as tie
 
@@ -21,19 +22,20 @@ loop-holds : tie.Need-loop-holds Inv-loop μ-loop
 loop-holds c = (omega arith, rw sub-zero)
 
 returns : tie.Need-returns Inv-loop μ-loop
-unfolding tagBefore
+unfolding tagBefore hasTagAt
 returns c =
     let l = c .before .before .before .loop in
     let a = c .before .before .before .before .before .args in
     let t = hasTagAt (a .f .now) (a .d) (a .tag) in
-    sym (l .inv .1 ∙ first-hit t (l .i) (a .n) (omega arith) (rw (← c .before .has-tag-at .ensures) (c .if1 .taken)))
+    sym (l .inv .1 ∙ first-hit t (l .i) (a .n) (omega arith) (rw (← c .before .tag-at .ensures) (eq-eqb _ _ (c .if1 .taken))))
 
 loop-again : tie.Need-loop-again Inv-loop μ-loop
+unfolding hasTagAt
 loop-again c =
     let l = c .before .before .before .loop in
     let a = c .before .before .before .before .before .args in
     let t = hasTagAt (a .f .now) (a .d) (a .tag) in
-    (omega arith, l .inv .1 ∙ first-step t (l .i) (a .n) (omega arith) (rw (← c .before .has-tag-at .ensures) (c .if1 .left)))
+    (omega arith, l .inv .1 ∙ first-step t (l .i) (a .n) (omega arith) (rw (← c .before .tag-at .ensures) (ne-eqb _ _ (c .if1 .left))))
 
 returns-2 : tie.Need-returns-2 Inv-loop μ-loop
 unfolding tagBefore
