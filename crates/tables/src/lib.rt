@@ -55,7 +55,7 @@ pub fn find_relocations(f: &[u8], h: Headers, d: Dynamic) -> RelocationsAnswer
         });
     };
     let entries = bytes / RELA_BYTES;
-    if ENTRY_LIMIT as u64 < entries {
+    if (ENTRY_LIMIT as u64) < entries {
         return RelocationsAnswer::Refused(Refusal {
             number: 7,
             position: 0,

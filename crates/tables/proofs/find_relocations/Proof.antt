@@ -19,7 +19,7 @@ returns-2 c =
     rw (← c .before .before .before .before .before .before .before .before .entry-of .ensures,
     ← c .before .before .before .before .before .before .before .or-zero .ensures,
     ← c .before .before .before .before .before .before .entry-of2 .ensures, ← c .before .before .before .before .before .or-zero2 .ensures,
-    ← c .before .before .before .before .table-backing .ensures, c .before .before .place .given .1, lt-leb _ _ (c .if1 .taken))
+    ← c .before .before .before .before .table-backing .ensures, c .before .before .backing .given .1, lt-leb _ _ (c .if1 .taken))
 
 returns-3 : tie.Need-returns-3
 unfolding relocationsOf
@@ -27,7 +27,7 @@ returns-3 c =
     rw (← c .before .before .before .before .before .before .before .before .entry-of .ensures,
     ← c .before .before .before .before .before .before .before .or-zero .ensures,
     ← c .before .before .before .before .before .before .entry-of2 .ensures, ← c .before .before .before .before .before .or-zero2 .ensures,
-    ← c .before .before .before .before .table-backing .ensures, c .before .before .place .given .1, le-leb _ _ (c .if1 .left))
+    ← c .before .before .before .before .table-backing .ensures, c .before .before .backing .given .1, le-leb _ _ (c .if1 .left))
 
 pub find-relocations-spec : {M : Type 1} → statement M
 find-relocations-spec =
