@@ -6,12 +6,14 @@ use mathlib.Core.List.{List}
 use mathlib.Core.Logic.{_⊎_}
 use lib.ListN.{length}
 use Rattle.rules.specs.Outcome.{Outcome, good, bad}
-use Rattle.rules.specs.Examine.{moduleOf, factsOf}
-use Rattle.rules.specs.Load.{Loaded, loadOf, factsAfter, memoryAfter, planeAfter}
+use Rattle.rules.specs.Checks.{All, First}
+use Rattle.rules.specs.Reader.{theModule, moduleOf}
+use Rattle.rules.specs.Examine.{factsOf}
+use Rattle.rules.specs.Load.{Loaded, loadChecks, loadOf, factsAfter, memoryAfter, planeAfter}
 use Rattle.rules.specs.declared.Refusal.{Refusal}
 use Rattle.rules.specs.declared.Module.{Module}
 use Rattle.rules.specs.declared.Facts.{Facts}
-use Rattle.demands.specs.Table.{All, First, theModule, loadChecks, loadNumbers}
+use Rattle.demands.specs.Table.{loadNumbers}
 use Rattle.demands.specs.Demands.{Numbered, Counted, Leaves, Tags, Rechosen}
 
 -- the bytes of a memory and a tag plane

@@ -7,14 +7,18 @@ use mathlib.Core.List.{List}
 use mathlib.Core.Logic.{_⊎_}
 use lib.ListN.{length, getD}
 use Rattle.rules.specs.Outcome.{Outcome, good, bad}
+use Rattle.rules.specs.Checks.{Check, All, First}
 use Rattle.rules.specs.Limits.{entryLimit, globalLimit, granule}
 use Rattle.rules.specs.Bytes.{le}
 use Rattle.rules.specs.Headers.{headersOf}
 use Rattle.rules.specs.Segments.{headerAt, isLoad, loadsCheck, covers, backsAt, backingOf}
-use Rattle.rules.specs.Relocations.{placeAt, addendAt, live, symbolBacking, targetAt}
-use Rattle.rules.specs.Examine.{moduleOf, factsOf, examinedOf}
-use Rattle.rules.specs.Load.{Loaded, loadOf, loaded, memoryAfter, planeAfter, imageOf, globalsIn, globalAt, endOf}
-use Rattle.rules.specs.Load.{Source, none, at, sourceOf, wordAt}
+use Rattle.rules.specs.Reader.{theModule, readerChecks, moduleOf}
+use Rattle.rules.specs.Relocations.{placeAt, live, items, symbolBacking, targetAt}
+use Rattle.rules.specs.Examine.{factsOf, examineChecks, examinedOf}
+use Rattle.rules.specs.Choices.{globalsIn, globalAt, endOf}
+use Rattle.rules.specs.Image.{imageOf, loadedAt}
+use Rattle.rules.specs.Words.{Source, none, at, sourceAt, wordAt}
+use Rattle.rules.specs.Load.{Loaded, loadChecks, loadOf, loaded, memoryAfter, planeAfter}
 use Rattle.rules.specs.declared.Refusal.{Refusal}
 use Rattle.rules.specs.declared.Headers.{Headers}
 use Rattle.rules.specs.declared.Entry.the-variants.{Value}
@@ -24,8 +28,7 @@ use Rattle.rules.specs.declared.Module.{Module}
 use Rattle.rules.specs.declared.Facts.{Facts}
 use Rattle.rules.specs.declared.Target.the-variants.{Undefined}
 use Rattle.demands.specs.Plain.{plainOf}
-use Rattle.demands.specs.Table.{All, First, readerNumbers, examineNumbers, loadNumbers, listed, positionLimit}
-use Rattle.demands.specs.Table.{theModule, readerChecks, examineChecks, loadChecks}
+use Rattle.demands.specs.Table.{readerNumbers, examineNumbers, loadNumbers, listed, positionLimit}
 
 -- ---- demand 1: one outcome or the other, and a refusal changes nothing
 
@@ -57,7 +60,7 @@ pub record Answers (f : List ℕ) (bias n p : ℕ) (choices : List ℕ) : Type 0
 
 -- an outcome is good exactly when every check of a list passes, and then it is a; it is a refusal exactly when that is the
 -- refusal of the first check that does not pass
-pub record Exactly {A : Type 0} (o : Outcome A) (checks : List (Outcome (Unit {0}))) (a : A) : Type 0 where
+pub record Exactly {A : Type 0} (o : Outcome A) (checks : List Check) (a : A) : Type 0 where
   pub taken-if : All checks → o ≡ good a
   pub taken-only-if : (b : A) → o ≡ good b → All checks × (b ≡ a)
   pub refused-if : (r : Refusal) → First checks r → o ≡ bad r
@@ -68,14 +71,14 @@ pub record SameFacts (f : List ℕ) (bias n p : ℕ) (choices : List ℕ) : Type
   pub facts-examined : (l : Loaded) → loadOf f bias n p choices ≡ good l → examinedOf f ≡ good (l .facts)
   pub refusal-examined : (r : Refusal) → examinedOf f ≡ bad r → loadOf f bias n p choices ≡ bad r
 
--- entry k is in the relocation table and is not skipped: it relocates a word
+-- item k is there and is not skipped: it relocates a word
 pub record Relocates (f : List ℕ) (m : Module) (k : ℕ) : Type 0 where
-  pub listed : k < m .relocations .entries
-  pub unskipped : live f (m .relocations) k ≡ true
+  pub listed : k < items m
+  pub unskipped : live f m k ≡ true
 
 -- a word's place, and the place of its top byte
 abbrev pub wordPlace : List ℕ → Module → ℕ → ℕ
-wordPlace f m k = placeAt f (m .relocations) k
+wordPlace f m k = placeAt f m k
 
 abbrev pub topPlace : List ℕ → Module → ℕ → ℕ
 topPlace f m k = wordPlace f m k + 7
@@ -108,12 +111,13 @@ pub record Plane (gs : List Global) (choices : List ℕ) (p : ℕ) (plane : List
   pub described : (j x : ℕ) → j < length gs → Within (globalAt gs j) x → getD plane x 0 ≡ getD choices j 0
   pub undescribed : (x : ℕ) → x < p → Undescribed gs x → getD plane x 0 ≡ 0
 
--- memory before relocation: each PT_LOAD's file part, all others 0
+-- memory before relocation: each PT_LOAD's file part, all others 0; *P, which the rules read from the file, is what it holds
 pub record Image (f : List ℕ) (m : Module) (n : ℕ) (image : List ℕ) : Type 0 where
   pub image-length : length image ≡ n
   pub from-file : (i x : ℕ) → i < m .headers .count → FilePart (headerAt f (m .headers) i) x
       → getD image x 0 ≡ getD f (headerAt f (m .headers) i .offset + (x - headerAt f (m .headers) i .vaddr)) 0
   pub all-others : (x : ℕ) → ((i : ℕ) → i < m .headers .count → FilePart (headerAt f (m .headers) i) x → ⊥) → getD image x 0 ≡ 0
+  pub loaded-words : (x : ℕ) → le 8 image x ≡ loadedAt f (m .headers) x
 
 -- memory: each relocated word in its own eight bytes, and the image's bytes in no relocated word
 pub record Memory (f : List ℕ) (bias n : ℕ) (m : Module) (image plane memory : List ℕ) : Type 0 where
@@ -122,7 +126,7 @@ pub record Memory (f : List ℕ) (bias n : ℕ) (m : Module) (image plane memory
   pub words-apart : (j k : ℕ) → j < k → Relocates f m j → Relocates f m k
       → (wordPlace f m j + 8 ≤ wordPlace f m k) ⊎ (wordPlace f m k + 8 ≤ wordPlace f m j)
   pub words : (k : ℕ) → Relocates f m k
-      → le 8 memory (wordPlace f m k) ≡ wordAt f (m .headers) (m .dynamic) (m .relocations) bias image plane k
+      → le 8 memory (wordPlace f m k) ≡ wordAt f m bias n plane k
   pub other-bytes : (x : ℕ) → ((k : ℕ) → Relocates f m k → wordPlace f m k ≤ x → x < wordPlace f m k + 8 → ⊥)
       → getD memory x 0 ≡ getD image x 0
 
@@ -143,12 +147,6 @@ pub record Idle (f : List ℕ) (h : Headers) : Type 0 where
 
 -- ---- demand 3: against the plain loader
 
--- the tag source of entry k: *P is read from the bytes as loaded, before any relocation
-abbrev pub sourceAt : List ℕ → Module → ℕ → ℕ → ℕ → Source
-sourceAt f m bias n k =
-    sourceOf bias (targetAt f (m .headers) (m .dynamic) (m .relocations) k) (addendAt f (m .relocations) k)
-    (le 8 (imageOf f (m .headers) n) (wordPlace f m k))
-
 -- a global holds the run-time addresses from bias + its start to just before bias + its end
 abbrev pub Holds : ℕ → Global → Source → Type 0
 Holds bias g none = ⊥
@@ -168,12 +166,12 @@ pub record Agrees (f : List ℕ) (bias n : ℕ) (choices : List ℕ) (m : Module
   pub same-length : length plain ≡ length memory
   pub others : (x : ℕ) → NoTop f m x → getD plain x 0 ≡ getD memory x 0
   pub bare : (k : ℕ) → Relocates f m k → getD plain (topPlace f m k) 0 ≡ 0
-  pub held : (k j : ℕ) → Relocates f m k → j < length (globalsIn f m) → Holds bias (globalAt (globalsIn f m) j) (sourceAt f m bias n k)
+  pub held : (k j : ℕ) → Relocates f m k → j < length (globalsIn f m) → Holds bias (globalAt (globalsIn f m) j) (sourceAt f m bias k)
       → getD memory (topPlace f m k) 0 ≡ getD choices j 0
   pub unheld : (k : ℕ) → Relocates f m k
-      → ((j : ℕ) → j < length (globalsIn f m) → Holds bias (globalAt (globalsIn f m) j) (sourceAt f m bias n k) → ⊥)
+      → ((j : ℕ) → j < length (globalsIn f m) → Holds bias (globalAt (globalsIn f m) j) (sourceAt f m bias k) → ⊥)
       → getD memory (topPlace f m k) 0 ≡ 0
-  pub weak : (k : ℕ) → Relocates f m k → targetAt f (m .headers) (m .dynamic) (m .relocations) k ≡ Undefined
+  pub weak : (k : ℕ) → Relocates f m k → targetAt f m k ≡ Undefined
       → getD memory (topPlace f m k) 0 ≡ 0
 
 -- the plain loader takes what the load takes
@@ -206,7 +204,7 @@ pub data Rechosen (f : List ℕ) (p : ℕ) (m : Module) (l : Loaded) (o : Outcom
 -- a load's tags: against the plain loader, against its own plane, and with other choices
 pub record Tags (f : List ℕ) (bias n p : ℕ) (choices : List ℕ) (m : Module) (l : Loaded) : Type 0 where
   pub against-plain : Plain f bias n choices m (l .memory)
-  pub matches : (k j : ℕ) → Relocates f m k → j < length (globalsIn f m) → Holds bias (globalAt (globalsIn f m) j) (sourceAt f m bias n k)
+  pub matches : (k j : ℕ) → Relocates f m k → j < length (globalsIn f m) → Holds bias (globalAt (globalsIn f m) j) (sourceAt f m bias k)
       → Matches f bias n p m l k j
   pub rechosen : (choices′ : List ℕ) → Rechosen f p m l (loadOf f bias n p choices′)
 

@@ -3,28 +3,29 @@
 -- Assumes nothing.
 use Prim.Native.Nat.{ℕ, zero, suc, _+_, _*_, _^_}
 use mathlib.Core.Bool.{Bool, true, cond, not, _&&_}
-use mathlib.Core.List.{List, _++_}
+use mathlib.Core.List.{List, [], _∷_, _++_}
 use lib.ListN.{length, take, drop, replicate}
 use lib.Dec.{ltb, eqb}
 use lib.IntN.{ℤ, pos, negsuc, _+ℤ_, natAbs}
-use Rattle.rules.specs.Outcome.{Outcome, good, andThen, require}
+use Rattle.rules.specs.Outcome.{Outcome, passed, require}
+use Rattle.rules.specs.Checks.{Check, checked}
 use Rattle.rules.specs.Bytes.{le, part}
-use Rattle.rules.specs.First.{faultless}
+use Rattle.rules.specs.First.{faultsAt}
 use Rattle.rules.specs.Memory.{bytesOf, signed}
-use Rattle.rules.specs.Headers.{headersOf}
-use Rattle.rules.specs.Segments.{headerAt, isLoad, loadsCheck, backingOf}
-use Rattle.rules.specs.Dynamic.{dynamicOf, baseTags, entriesCheck, entryOf}
+use Rattle.rules.specs.Headers.{headerChecks, theHeaders}
+use Rattle.rules.specs.Segments.{headerAt, isLoad, loadsCheck, loadsEnd, backingOf}
+use Rattle.rules.specs.Dynamic.{dynamicOf, symtab, baseTags, entriesCheck, entryOf}
 use Rattle.rules.specs.Tables.{relocationsOf}
-use Rattle.rules.specs.Relocations.{relative, placeAt, kindAt, symbolAt, addendAt, relocationsCheck}
-use Rattle.rules.specs.Load.{memoryFits, loadsEnd}
+use Rattle.rules.specs.Reader.{theDynamic, theRelocations}
+use Rattle.rules.specs.Relocations.{relative, placeAt, kindAt, symbolAt, addendAt, items, positionAt, relocationsCheck}
+use Rattle.rules.specs.Lending.{memoryFits}
 use Rattle.rules.specs.declared.Headers.{Headers}
 use Rattle.rules.specs.declared.Segment.{Segment}
 use Rattle.rules.specs.declared.Backing.{Backing}
 use Rattle.rules.specs.declared.Backing.the-variants.{At, Nowhere}
-use Rattle.rules.specs.declared.Dynamic.{Dynamic}
 use Rattle.rules.specs.declared.Entry.{Entry}
 use Rattle.rules.specs.declared.Entry.the-variants.{Absent, Value}
-use Rattle.rules.specs.declared.Relocations.{Relocations}
+use Rattle.rules.specs.declared.Module.{Module}
 
 -- m with the bytes s from a place on, and no other byte changed
 abbrev pub store : List ℕ → ℕ → List ℕ → List ℕ
@@ -52,34 +53,52 @@ symbolAddress f bias (At at) = cond (eqb (le 2 f (at + 6)) 0) 0 (bias + le 8 f (
 abbrev pub operation : ℕ → ℕ → ℕ → ℤ → ℤ
 operation kind bias s a = cond (eqb kind relative) (pos bias) (pos s) +ℤ a
 
-abbrev pub bareAddress : List ℕ → Headers → Dynamic → Relocations → ℕ → ℕ → ℤ
-bareAddress f h d r bias i =
-    operation (kindAt f r i) bias (symbolAddress f bias (symbolEntry f h (entryOf f d 6) (symbolAt f r i))) (signed (addendAt f r i))
+abbrev pub bareAddress : List ℕ → Module → ℕ → ℕ → ℤ
+bareAddress f m bias i =
+    operation (kindAt f m i) bias (symbolAddress f bias (symbolEntry f (m .headers) (m .symbols) (symbolAt f m i))) (signed (addendAt f m i))
 
 -- check 13: below 0, or not below 2^48
 abbrev pub offRange : ℤ → Bool
 offRange (pos x) = not (ltb x (2 ^ 48))
 offRange (negsuc x) = true
 
-unfoldable pub badBare : List ℕ → Headers → Dynamic → Relocations → ℕ → ℕ → Bool
-badBare f h d r bias i = not (eqb (kindAt f r i) 0) && offRange (bareAddress f h d r bias i)
+unfoldable pub badBare : List ℕ → Module → ℕ → ℕ → Bool
+badBare f m bias i = not (eqb (kindAt f m i) 0) && offRange (bareAddress f m bias i)
 
 -- the relocations in table order: kind 0 is skipped, any other writes its bare address as eight bytes at its place
-unfoldable pub bareWords : List ℕ → Headers → Dynamic → Relocations → ℕ → List ℕ → ℕ → List ℕ
-bareWords f h d r bias m zero = m
-bareWords f h d r bias m (suc k) =
-    cond (eqb (kindAt f r k) 0) (bareWords f h d r bias m k)
-    (store (bareWords f h d r bias m k) (placeAt f r k) (bytesOf 8 (natAbs (bareAddress f h d r bias k))))
+unfoldable pub bareWords : List ℕ → Module → ℕ → List ℕ → ℕ → List ℕ
+bareWords f m bias memory zero = memory
+bareWords f m bias memory (suc k) =
+    cond (eqb (kindAt f m k) 0) (bareWords f m bias memory k)
+    (store (bareWords f m bias memory k) (placeAt f m k) (bytesOf 8 (natAbs (bareAddress f m bias k))))
 
--- checks 1 to 7 and 10 to 13, where the five memtag tags are unknown; then segments and words
+-- what it knows of a file: no descriptors
+abbrev pub plainModule : List ℕ → Module
+plainModule f = record {
+  headers = theHeaders f;
+  dynamic = theDynamic f;
+  symbols = entryOf f (theDynamic f) symtab;
+  relocations = theRelocations f;
+  descriptors = record { at = 0; bytes = 0 };
+  globals = 0;
+}
+
+-- checks 1 to 7 and 10 to 13 in their order, where the five memtag tags are unknown
+abbrev pub plainChecks : List ℕ → Module → ℕ → ℕ → List Check
+plainChecks f m bias n =
+    headerChecks f
+    ++ (loadsCheck f (m .headers)
+    ∷ passed (dynamicOf f (m .headers))
+    ∷ entriesCheck baseTags f (m .dynamic)
+    ∷ passed (relocationsOf f (m .headers) (m .dynamic))
+    ∷ relocationsCheck f m
+    ∷ require (memoryFits (loadsEnd f (m .headers)) n bias) 12 0
+    ∷ faultsAt 13 (positionAt m) (badBare f m bias) (items m)
+    ∷ [])
+
+-- then segments and words
+abbrev pub plainMemory : List ℕ → Module → ℕ → ℕ → List ℕ
+plainMemory f m bias n = bareWords f m bias (segmentsOf f (m .headers) n (m .headers .count)) (items m)
+
 unfoldable pub plainOf : List ℕ → ℕ → ℕ → Outcome (List ℕ)
-plainOf f bias n =
-    andThen (headersOf f) (λ h.
-    andThen (loadsCheck f h) (λ _.
-    andThen (dynamicOf f h) (λ d.
-    andThen (entriesCheck baseTags f d) (λ _.
-    andThen (relocationsOf f h d) (λ r.
-    andThen (relocationsCheck f h d r) (λ _.
-    andThen (require (memoryFits (loadsEnd f h) n bias) 12 0) (λ _.
-    andThen (faultless 13 (badBare f h d r bias) (r .entries)) (λ _.
-    good (bareWords f h d r bias (segmentsOf f h n (h .count)) (r .entries))))))))))
+plainOf f bias n = checked (plainChecks f (plainModule f) bias n) (plainMemory f (plainModule f) bias n)

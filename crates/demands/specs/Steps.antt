@@ -8,7 +8,7 @@ use lib.ListN.{length}
 use Rattle.rules.specs.Outcome.{good, bad, refusal}
 use Rattle.rules.specs.Limits.{addressLimit, granule}
 use Rattle.rules.specs.Descriptors.{finished, global, stepAt}
-use Rattle.rules.specs.Load.{endOf}
+use Rattle.rules.specs.Choices.{endOf}
 use Rattle.rules.specs.declared.Refusal.{Refusal}
 use Rattle.rules.specs.declared.Global.{Global}
 use Rattle.rules.specs.declared.Cursor.{Cursor}

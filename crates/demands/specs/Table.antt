@@ -1,13 +1,13 @@
--- The checks as one list in their order, and document 01's table of refusals, a row a number.
+-- Document 01's table of refusals, a row a number: which numbers a check gives, and at exactly which positions.
 -- Assumes nothing.
 use Prim.Native.Nat.{ℕ, zero, suc, _+_, _*_, _/_, _≤_, _<_}
 use mathlib.Core.Path.{_≡_}
-use mathlib.Core.Bool.{Bool, true, false, _&&_, _||_}
+use mathlib.Core.Bool.{Bool, true, false, _||_}
 use mathlib.Core.List.{List, [], _∷_, _++_}
 use mathlib.Core.Logic.{_⊎_}
 use lib.ListN.{length}
 use lib.Dec.{eqb}
-use Rattle.rules.specs.Outcome.{Outcome, good, bad, refusal, andThen, found, require}
+use Rattle.rules.specs.Outcome.{Outcome, good, bad, refusal}
 use Rattle.rules.specs.Limits.{fileLeast, fileLimit, entryLimit, globalLimit, granule}
 use Rattle.rules.specs.Bytes.{le}
 use Rattle.rules.specs.Headers.{sizeCheck, wrongByte, identificationCheck, goodHeader, headerCheck}
@@ -15,99 +15,18 @@ use Rattle.rules.specs.Segments.{headerAt, badLoad, loadsCheck, inMemory}
 use Rattle.rules.specs.Dynamic.{isDynamicAt, dynamicIn, dynamicOf, knownTags, badEntry, partnerless, entriesCheck}
 use Rattle.rules.specs.Tables.{tableBacking, relaAddress, relaBytes, descriptorAddress, descriptorBytes, relocationsOf, descriptorsOf}
 use Rattle.rules.specs.Descriptors.{global, stepAt, tableStart, descriptorTable, globalsOf}
-use Rattle.rules.specs.Relocations.{targetIn, barred, badRelocation, relocationsIn, relocationsCheck}
-use Rattle.rules.specs.Load.{memoryFits, planeFits, loadsEnd, badAddress, addressesCheck, badChoice, choicesCheck}
+use Rattle.rules.specs.Relocations.{items, targetAt, barred, badRelocation, relocationsCheck}
+use Rattle.rules.specs.Lending.{lendingFits, lendingCheck}
+use Rattle.rules.specs.Addresses.{badAddress, addressesCheck}
+use Rattle.rules.specs.Choices.{badChoice, choicesFor}
 use Rattle.rules.specs.declared.Refusal.{Refusal}
 use Rattle.rules.specs.declared.Headers.{Headers}
 use Rattle.rules.specs.declared.Dynamic.{Dynamic}
-use Rattle.rules.specs.declared.Entry.{Entry}
 use Rattle.rules.specs.declared.Backing.the-variants.{Nowhere}
-use Rattle.rules.specs.declared.Relocations.{Relocations}
 use Rattle.rules.specs.declared.Descriptors.{Descriptors}
 use Rattle.rules.specs.declared.Global.{Global}
 use Rattle.rules.specs.declared.Cursor.{Cursor}
 use Rattle.rules.specs.declared.Module.{Module}
-
--- ---- checks in a row: the first that does not pass is answered
-
-abbrev pub runs : List (Outcome (Unit {0})) → Outcome (Unit {0})
-runs [] = good tt
-runs (c ∷ cs) = andThen c (λ _. runs cs)
-
--- every check passes
-abbrev pub All : List (Outcome (Unit {0})) → Type 0
-All [] = Unit
-All (c ∷ cs) = (c ≡ good tt) × All cs
-
--- r is the refusal of the first that does not pass
-abbrev pub First : List (Outcome (Unit {0})) → Refusal → Type 0
-First [] r = ⊥
-First (c ∷ cs) r = (c ≡ bad r) ⊎ ((c ≡ good tt) × First cs r)
-
--- ---- the checks of the three calls
-
--- a check that finds something: does it pass
-abbrev pub passed : {A : Type 0} → Outcome A → Outcome (Unit {0})
-passed (good a) = good tt
-passed (bad r) = bad r
-
--- what the checks find; what stands for a refusal is never reached
-abbrev pub theHeaders : List ℕ → Headers
-theHeaders f = record { table = le 8 f 32; count = le 2 f 56 }
-
-abbrev pub theDynamic : List ℕ → Dynamic
-theDynamic f = found (record { at = 0; entries = 0 }) (dynamicOf f (theHeaders f))
-
-abbrev pub theRelocations : List ℕ → Relocations
-theRelocations f = found (record { at = 0; entries = 0 }) (relocationsOf f (theHeaders f) (theDynamic f))
-
-abbrev pub theDescriptors : List ℕ → Descriptors
-theDescriptors f = found (record { at = 0; bytes = 0 }) (descriptorsOf f (theHeaders f) (theDynamic f))
-
-abbrev pub theGlobals : List ℕ → List Global
-theGlobals f = found [] (globalsOf f (theHeaders f) (theDescriptors f))
-
-abbrev pub theModule : List ℕ → Module
-theModule f = record {
-  headers = theHeaders f;
-  dynamic = theDynamic f;
-  relocations = theRelocations f;
-  descriptors = theDescriptors f;
-  globals = length (theGlobals f);
-}
-
--- 1 to 9
-abbrev pub readerChecks : List ℕ → List (Outcome (Unit {0}))
-readerChecks f =
-    sizeCheck f
-    ∷ identificationCheck f
-    ∷ headerCheck f
-    ∷ loadsCheck f (theHeaders f)
-    ∷ passed (dynamicOf f (theHeaders f))
-    ∷ entriesCheck knownTags f (theDynamic f)
-    ∷ passed (relocationsOf f (theHeaders f) (theDynamic f))
-    ∷ passed (descriptorsOf f (theHeaders f) (theDynamic f))
-    ∷ passed (globalsOf f (theHeaders f) (theDescriptors f))
-    ∷ []
-
--- 1 to 11
-abbrev pub examineChecks : List ℕ → List (Outcome (Unit {0}))
-examineChecks f = readerChecks f ++ (relocationsCheck f (theHeaders f) (theDynamic f) (theRelocations f) ∷ [])
-
-abbrev pub fits : List ℕ → Headers → ℕ → ℕ → ℕ → Bool
-fits f h bias n p = memoryFits (loadsEnd f h) n bias && planeFits n p
-
--- 12 to 14
-abbrev pub lentChecks : List ℕ → ℕ → ℕ → ℕ → List ℕ → List (Outcome (Unit {0}))
-lentChecks f bias n p choices =
-    require (fits f (theHeaders f) bias n p) 12 0
-    ∷ addressesCheck f (theHeaders f) (theDynamic f) (theRelocations f) bias
-    ∷ choicesCheck (theGlobals f) choices
-    ∷ []
-
--- 1 to 14
-abbrev pub loadChecks : List ℕ → ℕ → ℕ → ℕ → List ℕ → List (Outcome (Unit {0}))
-loadChecks f bias n p choices = examineChecks f ++ lentChecks f bias n p choices
 
 -- ---- the numbers of each call; they need not be an interval
 
@@ -182,10 +101,10 @@ pub data GlobalFault (f : List ℕ) (h : Headers) (s : List ℕ) (i : ℕ) : Typ
       → inMemory f h false (g .start) (granule * g .granules) ≡ false → GlobalFault f h s i
   left-over : (c : Cursor) → i ≡ globalLimit → Reaches f h s i c → c .position < length s → GlobalFault f h s i
 
--- the first entry with a fault: its kind or symbol; else its place
-pub record EntryAt (f : List ℕ) (h : Headers) (symbols : Entry) (r : Relocations) (kind : Bool) (i : ℕ) : Type 0 where
-  pub first : Lowest (badRelocation f h symbols r) 0 (r .entries) i
-  pub by-kind : barred (targetIn f h symbols r i) ≡ kind
+-- the first item with a fault: its kind or symbol; else its place
+pub record ItemAt (f : List ℕ) (m : Module) (kind : Bool) (i : ℕ) : Type 0 where
+  pub first : Lowest (badRelocation f m) 0 (items m) i
+  pub by-kind : barred (targetAt f m i) ≡ kind
 
 -- a wrong number of choices; else the first bad choice
 pub data ChoiceFault (gs : List Global) (choices : List ℕ) (i : ℕ) : Type 0 where
@@ -213,11 +132,9 @@ pub record Table (f : List ℕ) : Type 0 where
       × (tableBacking f h (descriptorAddress f d) (descriptorBytes f d) ≡ Nowhere))
   pub row-8 : (h : Headers) (t : Descriptors) → Row (globalsOf f h t) (8 ∷ 9 ∷ []) 8 (Unread f h (descriptorTable f t) 8)
   pub row-9 : (h : Headers) (t : Descriptors) → Row (globalsOf f h t) (8 ∷ 9 ∷ []) 9 (GlobalFault f h (descriptorTable f t))
-  pub row-10 : (h : Headers) (symbols : Entry) (t : Relocations)
-      → Row (relocationsIn f h symbols t) (10 ∷ 11 ∷ []) 10 (EntryAt f h symbols t true)
-  pub row-11 : (h : Headers) (symbols : Entry) (t : Relocations)
-      → Row (relocationsIn f h symbols t) (10 ∷ 11 ∷ []) 11 (EntryAt f h symbols t false)
-  pub row-12 : (h : Headers) (bias n p : ℕ) → Row (require (fits f h bias n p) 12 0) (12 ∷ []) 12 (λ i. (i ≡ 0) × (fits f h bias n p ≡ false))
-  pub row-13 : (h : Headers) (d : Dynamic) (t : Relocations) (bias : ℕ)
-      → Row (addressesCheck f h d t bias) (13 ∷ []) 13 (Lowest (badAddress f h d t bias) 0 (t .entries))
-  pub row-14 : (gs : List Global) (choices : List ℕ) → Row (choicesCheck gs choices) (14 ∷ []) 14 (ChoiceFault gs choices)
+  pub row-10 : (m : Module) → Row (relocationsCheck f m) (10 ∷ 11 ∷ []) 10 (ItemAt f m true)
+  pub row-11 : (m : Module) → Row (relocationsCheck f m) (10 ∷ 11 ∷ []) 11 (ItemAt f m false)
+  pub row-12 : (m : Module) (bias n p : ℕ)
+      → Row (lendingCheck f m bias n p) (12 ∷ []) 12 (λ i. (i ≡ 0) × (lendingFits f m bias n p ≡ false))
+  pub row-13 : (m : Module) (bias : ℕ) → Row (addressesCheck f m bias) (13 ∷ []) 13 (Lowest (badAddress f m bias) 0 (items m))
+  pub row-14 : (gs : List Global) (choices : List ℕ) → Row (choicesFor gs choices) (14 ∷ []) 14 (ChoiceFault gs choices)

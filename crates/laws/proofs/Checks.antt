@@ -10,7 +10,7 @@ use lib.Dec.{leb, eqb}
 use borrow.Author.Tests.{leb-true, leb-false, ltb-true, ltb-false, le-ltb, eqb-true, eq-eqb}
 use Rattle.rules.specs.Outcome.{Outcome, good, bad, andThen, require, refusal}
 use Rattle.rules.specs.declared.Refusal.{Refusal}
-use Rattle.rules.specs.First.{first, someBelow, faultless}
+use Rattle.rules.specs.First.{first, someBelow, faultsAt, faultless}
 use Rattle.rules.proofs.FirstLaws.{first-le, first-all, first-end, first-true}
 use Rattle.rules.proofs.OutcomeLaws.{cond-held}
 
@@ -82,11 +82,18 @@ module _ (f : ℕ → Bool) where
   pub all-end : (n : ℕ) → ((j : ℕ) → j < n → f j ≡ false) → first f 0 n ≡ n
   all-end n h = first-end f n 0 (λ j l g. h j (omega arith)) ∙ omega arith
 
+  pub faults-all : (number : ℕ) (position : ℕ → ℕ) (n : ℕ) → faultsAt number position f n ≡ good tt → (j : ℕ) → j < n → f j ≡ false
+  faults-all number position n h = end-all n (cond-held (refusal number (position (first f 0 n))) (eqb (first f 0 n) n) (good tt) h .0)
+
+  pub all-faults : (number : ℕ) (position : ℕ → ℕ) (n : ℕ) → ((j : ℕ) → j < n → f j ≡ false) → faultsAt number position f n ≡ good tt
+  all-faults number position n h = let e = eq-eqb (first f 0 n) n (all-end n h) in rw e
+
+  -- where an index is its own position
   pub faultless-all : (number n : ℕ) → faultless number f n ≡ good tt → (j : ℕ) → j < n → f j ≡ false
-  faultless-all number n h = end-all n (cond-held (refusal number (first f 0 n)) (eqb (first f 0 n) n) (good tt) h .0)
+  faultless-all number n h = faults-all number (λ i. i) n h
 
   pub all-faultless : (number n : ℕ) → ((j : ℕ) → j < n → f j ≡ false) → faultless number f n ≡ good tt
-  all-faultless number n h = let e = eq-eqb (first f 0 n) n (all-end n h) in rw e
+  all-faultless number n h = all-faults number (λ i. i) n h
 
   pub some-all : (n : ℕ) → someBelow f n ≡ false → (j : ℕ) → j < n → f j ≡ false
   some-all n h j l =

@@ -12,9 +12,9 @@ use lib.Dec.{leb, ltb, eqb}
 use borrow.Author.Tests.{eqb-true, eqb-false, leb-true}
 use Rattle.rules.specs.Outcome.{Outcome, good, bad, andThen, refusal}
 use Rattle.rules.specs.Limits.{granule, globalLimit, addressLimit}
-use Rattle.rules.specs.Segments.{loadsCheck, inMemory}
+use Rattle.rules.specs.Segments.{loadsCheck, loadsEnd, inMemory}
 use Rattle.rules.specs.Descriptors.{Uleb, number, malformed, Read, finished, global, ulebAt, globalAfter, second, descriptor, stepAt, onGlobal, globalsFrom, globalsOf, descriptorTable, tableStart}
-use Rattle.rules.specs.Load.{loadsEnd, endOf, globalAt}
+use Rattle.rules.specs.Choices.{endOf, globalAt}
 use Rattle.rules.specs.declared.Headers.{Headers}
 use Rattle.rules.specs.declared.Descriptors.{Descriptors}
 use Rattle.rules.specs.declared.Global.{Global}

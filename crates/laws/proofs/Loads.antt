@@ -12,8 +12,7 @@ use lib.Dec.{leb, eqb}
 use borrow.Author.Tests.{leb-true, not-false}
 use Rattle.rules.specs.Outcome.{good}
 use Rattle.rules.specs.Limits.{memoryLimit}
-use Rattle.rules.specs.Segments.{headerAt, isLoad, goodLoad, endBefore, badLoad, loadsCheck, covers, holds, inMemory, holdsAt, writable}
-use Rattle.rules.specs.Load.{loadsEnd}
+use Rattle.rules.specs.Segments.{headerAt, isLoad, goodLoad, endBefore, badLoad, loadsCheck, loadsEnd, covers, holds, inMemory, holdsAt, writable}
 use Rattle.rules.specs.declared.Headers.{Headers}
 use Rattle.rules.specs.declared.Segment.{Segment}
 use Rattle.rules.proofs.OutcomeLaws.{and-left, and-right}

@@ -1,4 +1,4 @@
-// Writes to lent memory. Each function takes any place: what would fall past the end is left out.
+// Writes to lent memory. Each function takes any position: what would fall past the end is left out.
 ghost use mathlib.Core.Path.{_≡_};
 ghost use Prim.Native.Nat.{_+_, _≤_, min};
 ghost use lib.ListN.{length, replicate};

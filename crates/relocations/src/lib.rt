@@ -9,10 +9,10 @@ ghost use Rattle.rules.specs.Outcome.{refuse};
 ghost use Rattle.rules.specs.Answers.{ofWalk};
 ghost use Rattle.relocations.specs.Walk.{entryFault, keyAt, searchFrom, walkOf};
 use rules::Address;
+use rules::Backing;
 use rules::Entry;
 use rules::Headers;
 use rules::MEMORY_LIMIT;
-use rules::Backing;
 use rules::Refusal;
 use rules::Relocations;
 use rules::Symbol;
@@ -20,160 +20,14 @@ use rules::Target;
 use rules::WalkAnswer;
 use rules::Walked;
 
-const R_AARCH64_ABS64: u32 = 257;
-
-const R_AARCH64_GLOB_DAT: u32 = 1025;
-
-const R_AARCH64_RELATIVE: u32 = 1027;
-
-const STT_TLS: u8 = 6;
-
-const STT_GNU_IFUNC: u8 = 10;
-
-const STB_WEAK: u8 = 2;
-
-const SHN_LORESERVE: u16 = 0xff00;
-
-const SYMBOL_BYTES: u64 = 24;
-
 // Kept for a skipped entry in the search for a repeated place: no place that fits.
 const SKIPPED: u64 = 1;
-
-// An entry's place.
-pub fn place_at(f: &[u8], r: Relocations, i: u32) -> u64
-    ensures { λ v. ⌜ v ≡ placeAt (now (f .entry)) r i ⌝ }
-{
-    reads::read64(f, r.at as usize + 24 * (i as usize))
-}
-
-// An entry's kind.
-pub fn kind_at(f: &[u8], r: Relocations, i: u32) -> u32
-    ensures { λ v. ⌜ v ≡ kindAt (now (f .entry)) r i ⌝ }
-{
-    reads::read32(f, r.at as usize + 24 * (i as usize) + 8)
-}
-
-// An entry's symbol.
-pub fn symbol_at(f: &[u8], r: Relocations, i: u32) -> u32
-    ensures { λ v. ⌜ v ≡ symbolAt (now (f .entry)) r i ⌝ }
-{
-    reads::read32(f, r.at as usize + 24 * (i as usize) + 12)
-}
-
-// An entry's addend, as its eight bytes.
-pub fn addend_at(f: &[u8], r: Relocations, i: u32) -> u64
-    ensures { λ v. ⌜ v ≡ addendAt (now (f .entry)) r i ⌝ }
-{
-    reads::read64(f, r.at as usize + 24 * (i as usize) + 16)
-}
 
 // An entry is not skipped.
 fn is_live(f: &[u8], r: Relocations, i: u32) -> bool
     ensures { λ v. ⌜ v ≡ live (now (f .entry)) r i ⌝ }
 {
     kind_at(f, r, i) != 0
-}
-
-// Where the entry of symbol n is backed.
-fn symbol_backing(f: &[u8], h: Headers, n: u32, symbols: Entry) -> Backing
-    ensures { λ v. ⌜ v ≡ symbolBacking (now (f .entry)) h n symbols ⌝ }
-{
-    let Entry::Value(table) = symbols else {
-        return Backing::Nowhere;
-    };
-    let offset = SYMBOL_BYTES * (n as u64);
-    if reads::sum_within(table, offset, MEMORY_LIMIT) {
-        return headers::backing_of(f, h, table + offset, SYMBOL_BYTES);
-    }
-    Backing::Nowhere
-}
-
-// The symbol entry at a position of the file.
-fn symbol_of(f: &[u8], at: u32) -> Symbol
-    ensures { λ v. ⌜ v ≡ symbolOf (now (f .entry)) at ⌝ }
-{
-    let p = at as usize;
-    Symbol {
-        info: reads::byte_at(f, p + 4),
-        section: reads::read16(f, p + 6),
-        value: reads::read64(f, p + 8),
-    }
-}
-
-// What a symbol refers to, where it is allowed.
-fn target_of(s: Symbol) -> Target
-    ensures { λ v. ⌜ v ≡ targetOf s ⌝ }
-{
-    let info = s.info;
-    let section = s.section;
-    let value = s.value;
-    if info % 16 == STT_TLS {
-        return Target::Barred;
-    }
-    if info % 16 == STT_GNU_IFUNC {
-        return Target::Barred;
-    }
-    if SHN_LORESERVE <= section {
-        return Target::Barred;
-    }
-    if section != 0 {
-        return Target::Defined(value);
-    }
-    if info / 16 == STB_WEAK {
-        return Target::Undefined;
-    }
-    Target::Barred
-}
-
-fn named_target(f: &[u8], p: Backing) -> Target
-    ensures { λ v. ⌜ v ≡ namedTarget (now (f .entry)) p ⌝ }
-{
-    let Backing::At(at) = p else {
-        return Target::Barred;
-    };
-    let s = symbol_of(f, at);
-    target_of(s)
-}
-
-// The kinds that have a symbol.
-fn is_symbolic(kind: u32) -> bool
-    ensures { λ v. ⌜ v ≡ (eqb kind abs64 || eqb kind globDat) ⌝ }
-{
-    if kind == R_AARCH64_ABS64 {
-        return true;
-    }
-    kind == R_AARCH64_GLOB_DAT
-}
-
-// What an entry of a kind and a symbol refers to.
-pub fn find_target(f: &[u8], h: Headers, symbols: Entry, kind: u32, symbol: u32) -> Target
-    ensures { λ v. ⌜ v ≡ target (now (f .entry)) h symbols kind symbol ⌝ }
-{
-    if kind == R_AARCH64_RELATIVE {
-        if symbol == 0 {
-            return Target::Base;
-        }
-        return Target::Barred;
-    }
-    if is_symbolic(kind) {
-        if symbol == 0 {
-            return Target::Barred;
-        }
-        let p = symbol_backing(f, h, symbol, symbols);
-        return named_target(f, p);
-    }
-    Target::Barred
-}
-
-fn is_barred(t: Target) -> bool
-    ensures { λ v. ⌜ v ≡ barred t ⌝ }
-{
-    match t {
-        Target::Base => false,
-        Target::Defined(_) => false,
-        Target::Undefined => false,
-        Target::Barred => true,
-    }
 }
 
 // A multiple of 8 whose eight bytes are in writable memory.
@@ -184,15 +38,6 @@ fn place_fits(f: &[u8], h: Headers, p: u64) -> bool
         return false;
     }
     headers::in_memory(f, h, true, p, 8)
-}
-
-// What an entry refers to.
-fn target_at(f: &[u8], h: Headers, symbols: Entry, r: Relocations, i: u32) -> Target
-    ensures { λ v. ⌜ v ≡ targetIn (now (f .entry)) h symbols r i ⌝ }
-{
-    let kind = kind_at(f, r, i);
-    let symbol = symbol_at(f, r, i);
-    find_target(f, h, symbols, kind, symbol)
 }
 
 // Checks 10 and 11 of one entry, but for its place's earlier entries: 0, 10 or 11.

@@ -11,7 +11,9 @@ use lib.ListN.{getD}
 use lib.IntN.{ℤ, pos, negsuc, _+ℤ_}
 use Rattle.rules.specs.Limits.{granule}
 use Rattle.rules.specs.Memory.{signed, mod64}
-use Rattle.rules.specs.Load.{tagAddress, sourceTag}
+use Rattle.rules.specs.Addresses.{addressOf}
+use Rattle.rules.specs.Plane.{tagAddress}
+use Rattle.rules.specs.Words.{sourceTag}
 use Rattle.rules.specs.Answers.{inRange}
 use Rattle.rules.specs.declared.Address.the-variants.{At, Outside}
 use Rattle.rules.specs.declared.Target.{Target}
@@ -57,7 +59,8 @@ mod-add : (z : ℤ) (a : ℕ) → a < 2 ^ 64 → mod64 (z +ℤ signed a) ≡ (mo
 mod-add (pos m) a h =
     by-ltb (λ t. mod64 (pos m +ℤ cond t (pos a) (negsuc (2 ^ 64 - suc a))) ≡ (m % 2 ^ 64 + a) % 2 ^ 64) a (2 ^ 63)
     (λ l. omega arith)
-    (λ l. by-ltb (λ t. mod64 (cond t (negsuc (suc (2 ^ 64 - suc a) - suc m)) (pos (m - suc (2 ^ 64 - suc a)))) ≡ (m % 2 ^ 64 + a) % 2 ^ 64) m (suc (2 ^ 64 - suc a))
+    (λ l. by-ltb (λ t. mod64 (cond t (negsuc (suc (2 ^ 64 - suc a) - suc m)) (pos (m - suc (2 ^ 64 - suc a)))) ≡ (m % 2 ^ 64 + a) % 2 ^ 64)
+    m (suc (2 ^ 64 - suc a))
     (λ g. omega arith)
     (λ g. omega arith))
 mod-add (negsuc m) a h =
@@ -66,6 +69,10 @@ mod-add (negsuc m) a h =
     (λ g. omega arith)
     (λ g. omega arith))
     (λ l. omega arith)
+
+-- of a base and an addend
+pub wrap-once : (b a x : ℕ) → a < 2 ^ 64 → x ≡ (b % 2 ^ 64 + a) % 2 ^ 64 → x ≡ mod64 (pos b +ℤ signed a)
+wrap-once b a x h e = e ∙ sym (mod-add (pos b) a h)
 
 -- two wrapping sums in a row
 pub wrap-twice : (b a p x y : ℕ) → b < 2 ^ 64 → a < 2 ^ 64 → p < 2 ^ 64 → x ≡ (b + a) % 2 ^ 64 → y ≡ (x + p) % 2 ^ 64

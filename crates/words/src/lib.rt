@@ -7,7 +7,9 @@ ghost use lib.Dec.{ltb};
 ghost use lib.IntN.{pos, _+ℤ_};
 ghost use Rattle.rules.specs.Limits.{granule};
 ghost use Rattle.rules.specs.Memory.{signed, mod64};
-ghost use Rattle.rules.specs.Load.{addressOf, tagAddress, sourceTag};
+ghost use Rattle.rules.specs.Addresses.{addressOf};
+ghost use Rattle.rules.specs.Plane.{tagAddress};
+ghost use Rattle.rules.specs.Words.{sourceTag};
 ghost use Rattle.rules.specs.Answers.{inRange};
 use rules::ADDRESS_LIMIT;
 use rules::Address;
@@ -63,6 +65,20 @@ pub fn address_of(bias: u64, target: Target, addend: u64) -> Address
         }
         Target::Undefined => offset_address(0, addend),
         Target::Barred => offset_address(0, addend),
+    }
+}
+
+// The address of a target with its signed addend, modulo 2^64: the word without its tag.
+pub fn bare_word(bias: u64, target: Target, addend: u64) -> u64
+    ensures { λ r. ⌜ r ≡ mod64 (addressOf bias target addend) ⌝ }
+{
+    match target {
+        Target::Base => std::num::wrapping_add_u64(bias, addend),
+        Target::Defined(value) => {
+            std::num::wrapping_add_u64(std::num::wrapping_add_u64(bias, value), addend)
+        }
+        Target::Undefined => addend,
+        Target::Barred => addend,
     }
 }
 

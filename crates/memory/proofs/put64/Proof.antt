@@ -19,8 +19,10 @@ returns c = search needs
 returns-2 : tie.Need-returns-2
 unfolding putWord over put
 returns-2 c =
-    let A = c .before .before .before .before .before .before .before .before .before .before .args in
-    c .before .before .put-bytes .ensures ∙ ap (λ (s : List ℕ). put (A .m .now) (A .at) s) (c .before .before .before .before .before .before .store-word2 .ensures)
+    let P = c .before .before in
+    let S = P .before .before .before .before in
+    let A = S .before .before .before .before .args in
+    P .put-bytes .ensures ∙ ap (λ (s : List ℕ). put (A .m .now) (A .at) s) (S .store-word2 .ensures)
 
 pub put64-spec : {M : Type 1} → statement M
 put64-spec =

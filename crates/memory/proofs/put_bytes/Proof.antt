@@ -1,4 +1,4 @@
--- `memory::put_bytes` meets its contract: the part from the place on comes back with the bytes over its front, and past the end nothing is put.
+-- `memory::put_bytes` meets its contract: the part from the position on comes back with the bytes over its front, and past the end nothing is put.
 -- Assumes nothing.
 use Prim.Native.Nat.{_-_}
 use mathlib.Core.Path.{sym}

@@ -2,8 +2,8 @@
 -- Assumes nothing.
 use Rattle.rules.specs.Relocations.{namedTarget}
 use borrow.Author.Needs.{needs}
-use Rattle.relocations.proofs.named_target.Statement.{statement}
-use Rattle.relocations.proofs.named_target.Tie as tie
+use Rattle.items.proofs.named_target.Statement.{statement}
+use Rattle.items.proofs.named_target.Tie as tie
 
 returns : tie.Need-returns
 unfolding namedTarget

@@ -2,8 +2,8 @@
 -- Assumes nothing.
 use Rattle.rules.proofs.Tests.{tests}
 use Rattle.rules.specs.Relocations.{targetOf}
-use Rattle.relocations.proofs.target_of.Statement.{statement}
-use Rattle.relocations.proofs.target_of.Tie as tie
+use Rattle.items.proofs.target_of.Statement.{statement}
+use Rattle.items.proofs.target_of.Tie as tie
 
 returns : tie.Need-returns
 unfolding targetOf

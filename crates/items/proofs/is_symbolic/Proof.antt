@@ -2,8 +2,8 @@
 -- Assumes nothing.
 use borrow.Author.Tests.{eq-eqb, ne-eqb}
 use Rattle.rules.specs.Relocations.{abs64}
-use Rattle.relocations.proofs.is_symbolic.Statement.{statement}
-use Rattle.relocations.proofs.is_symbolic.Tie as tie
+use Rattle.items.proofs.is_symbolic.Statement.{statement}
+use Rattle.items.proofs.is_symbolic.Tie as tie
 
 returns : tie.Need-returns
 returns c = rw (eq-eqb _ _ (c .if1 .taken))

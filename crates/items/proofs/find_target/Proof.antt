@@ -3,8 +3,8 @@
 use Rattle.rules.specs.Relocations.{target}
 use borrow.Author.Tests.{eq-eqb, ne-eqb}
 use borrow.Author.Needs.{needs}
-use Rattle.relocations.proofs.find_target.Statement.{statement}
-use Rattle.relocations.proofs.find_target.Tie as tie
+use Rattle.items.proofs.find_target.Statement.{statement}
+use Rattle.items.proofs.find_target.Tie as tie
 
 returns : tie.Need-returns
 unfolding target
@@ -16,15 +16,23 @@ returns-2 c = rw (eq-eqb _ _ (c .before .if1 .taken), ne-eqb _ _ (c .if2 .left))
 
 returns-3 : tie.Need-returns-3
 unfolding target
-returns-3 c = rw (ne-eqb _ _ (c .before .before .before .if1 .left), ← c .before .before .is-symbolic .ensures, c .before .if3 .taken, eq-eqb _ _ (c .if4 .taken))
+returns-3 c =
+    let S = c .before .before in
+    rw (ne-eqb _ _ (S .before .if1 .left), ← S .is-symbolic .ensures, c .before .if3 .taken, eq-eqb _ _ (c .if4 .taken))
 
 returns-4 : tie.Need-returns-4
 unfolding target
-returns-4 c = rw (ne-eqb _ _ (c .before .before .before .before .before .if1 .left), ← c .before .before .before .before .is-symbolic .ensures, c .before .before .before .if3 .taken, ne-eqb _ _ (c .before .before .if4 .left), ← c .before .symbol-backing .ensures) (c .named-target .ensures)
+returns-4 c =
+    let B = c .before in
+    let S = B .before .before .before in
+    rw (ne-eqb _ _ (S .before .if1 .left), ← S .is-symbolic .ensures, B .before .before .if3 .taken)
+    (rw (ne-eqb _ _ (B .before .if4 .left), ← B .symbol-backing .ensures) (c .named-target .ensures))
 
 returns-5 : tie.Need-returns-5
 unfolding target
-returns-5 c = rw (ne-eqb _ _ (c .before .before .if1 .left), ← c .before .is-symbolic .ensures, c .if3 .left)
+returns-5 c =
+    let S = c .before in
+    rw (ne-eqb _ _ (S .before .if1 .left), ← S .is-symbolic .ensures, c .if3 .left)
 
 pub find-target-spec : {M : Type 1} → statement M
 find-target-spec =

@@ -2,8 +2,8 @@
 -- Assumes nothing.
 use Rattle.rules.specs.Relocations.{symbolOf}
 use borrow.Author.Needs.{needs}
-use Rattle.relocations.proofs.symbol_of.Statement.{statement}
-use Rattle.relocations.proofs.symbol_of.Tie as tie
+use Rattle.items.proofs.symbol_of.Statement.{statement}
+use Rattle.items.proofs.symbol_of.Tie as tie
 
 returns : tie.Need-returns
 unfolding symbolOf
