@@ -36,7 +36,7 @@ fn memory_fits(f: &[u8], h: Headers, memory: u64, bias: u64) -> bool
     reads::both(
         memory % GRANULE == 0,
         reads::both(
-            headers::loads_end_within(f, h, memory),
+            segments::loads_end_within(f, h, memory),
             reads::both(
                 memory <= MEMORY_LIMIT,
                 reads::both(
@@ -92,7 +92,7 @@ pub fn place_segments(f: &[u8], h: Headers, mem: &mut [u8])
     memory::fill(mem, 0);
     let count = h.count;
     for i in 0..count {
-        let s = headers::header_at(f, h, i);
+        let s = segments::header_at(f, h, i);
         place_segment(f, s, mem);
     }
 }
