@@ -10,12 +10,14 @@ use lib.Dec.{leb}
 use borrow.Author.Tests.{leb-true, leb-false, le-leb, le-ltb}
 use Rattle.rules.specs.Outcome.{good}
 use Rattle.rules.specs.Limits.{fileLeast, fileLimit, memoryLimit}
-use Rattle.rules.specs.Headers.{sizeCheck, headersOf}
+use Rattle.rules.specs.Headers.{sizeCheck, headerChecks, headersOf}
+use Rattle.rules.specs.Checks.{runs}
 use Rattle.rules.specs.Segments.{headerAt, isLoad, loadsCheck, covers, backs, backsAt, backer, backingOf}
 use Rattle.rules.specs.Relocations.{symbolBacking}
 use Rattle.rules.specs.declared.Headers.{Headers}
 use Rattle.rules.specs.declared.Backing.the-variants.{Nowhere}
 use Rattle.rules.proofs.OutcomeLaws.{and-left, and-right, andThen-good, require-held}
+use Rattle.rules.proofs.ChecksLaws.{runs-all}
 use Rattle.laws.proofs.Checks.{all-end}
 use Rattle.laws.proofs.Loads.{load-good, covers-within}
 use Rattle.demands.specs.Demands.{Idle}
@@ -24,8 +26,8 @@ use Rattle.demands.specs.Demands.{Idle}
 file-size : (f : List ℕ) (h : Headers) → headersOf f ≡ good h → length f ≤ fileLimit
 unfolding headersOf sizeCheck
 file-size f h e =
-    let a = andThen-good (sizeCheck f) _ e in
-    leb-true (length f) fileLimit (and-right (leb fileLeast (length f)) _ (require-held _ 1 0 (a .here)))
+    let a = runs-all (headerChecks f) (andThen-good (runs (headerChecks f)) _ e .here) in
+    leb-true (length f) fileLimit (and-right (leb fileLeast (length f)) _ (require-held _ 1 0 (a .0)))
 
 module _ (f : List ℕ) (h : Headers) (headers : headersOf f ≡ good h) (loads : loadsCheck f h ≡ good tt) where
   backed : (a n i : ℕ) → i < h .count

@@ -1,7 +1,7 @@
 -- Memory before relocation: each PT_LOAD's file part at its own address, all others 0.
 -- Assumes nothing.
 use Prim.Native.Nat.{ℕ, zero, suc, _+_, _-_, _≤_, _<_}
-use mathlib.Core.Path.{_≡_, refl, _∙_}
+use mathlib.Core.Path.{_≡_, refl, sym, _∙_}
 use mathlib.Core.Bool.{true}
 use mathlib.Core.List.{List}
 use mathlib.Core.Logic.{⊎-elim}
@@ -9,15 +9,22 @@ use native.Mathlib.Nat.{eq-or-lt-of-le, le-of-suc-le-suc}
 use native.Mathlib.Omega.{arith}
 use lib.ListN.{length, getD, replicate, length-replicate, length-take, length-drop}
 use lib.Seq.{getD-take, getD-drop}
+use borrow.Author.Tests.{le-leb, lt-ltb, le-ltb}
 use Rattle.rules.specs.Outcome.{good}
-use Rattle.rules.specs.Bytes.{part}
-use Rattle.rules.specs.Segments.{headerAt, isLoad, loadsCheck}
-use Rattle.rules.specs.Load.{loadsEnd, loadsOver, imageOf}
+use Rattle.rules.specs.Bytes.{le, part}
+use Rattle.rules.specs.First.{first}
+use Rattle.rules.specs.Headers.{headersOf}
+use Rattle.rules.specs.Segments.{headerAt, isLoad, loadsCheck, loadsEnd, covers, backsAt, backer, backingOf}
+use Rattle.rules.specs.Image.{loadsOver, imageOf, byteOf, loadedIn}
 use Rattle.rules.specs.declared.Headers.{Headers}
 use Rattle.rules.specs.declared.Module.{Module}
 use Rattle.rules.proofs.MemoryLaws.{put-length, put-before, put-after, put-in}
 use Rattle.laws.proofs.Checks.{cond-case, le-or-lt}
-use Rattle.laws.proofs.Loads.{load-good, load-end, loads-apart}
+use Rattle.rules.proofs.FirstLaws.{first-le, first-true, first-all}
+use Rattle.rules.proofs.OutcomeLaws.{and-left, and-right}
+use Rattle.laws.proofs.Loads.{load-good, load-end, loads-apart, covers-within}
+use Rattle.demands.proofs.Lowest.{not-both}
+use Rattle.demands.proofs.Guards.{idle}
 use Rattle.demands.proofs.Plane.{replicate-zero}
 use Rattle.demands.specs.Demands.{FilePart, Image}
 
@@ -88,12 +95,62 @@ module _ (f : List ℕ) (h : Headers) (passed : loadsCheck f h ≡ good tt) (m :
       (le-or-lt (s .vaddr) x))
       (λ t. ih)
 
-pub image-holds : (f : List ℕ) (m : Module) (n : ℕ) → loadsCheck f (m .headers) ≡ good tt → loadsEnd f (m .headers) ≤ n
-    → Image f m n (imageOf f (m .headers) n)
-image-holds f m n passed fits =
-    let z = length-replicate {A = ℕ} n 0 in
-    record {
-      image-length = image-size f (m .headers) n;
-      from-file = λ i x l w. loads-in f (m .headers) passed (replicate n 0) (omega arith) (m .headers .count) i x (omega arith) l w;
-      all-others = λ x out. loads-out f (m .headers) passed (replicate n 0) (omega arith) (m .headers .count) x (omega arith) out ∙ replicate-zero n x;
-    }
+-- the byte and the word loaded at an address, by the file alone
+module _ (f : List ℕ) (h : Headers) (headed : headersOf f ≡ good h) (passed : loadsCheck f h ≡ good tt) (n : ℕ) (fits : loadsEnd f h ≤ n) where
+  abbrev image : List ℕ
+  image = imageOf f h n
+
+  image-in : (i x : ℕ) → i < h .count → FilePart (headerAt f h i) x
+      → getD image x 0 ≡ getD f (headerAt f h i .offset + (x - headerAt f h i .vaddr)) 0
+  image-in i x l w =
+      let z = length-replicate {A = ℕ} n 0 in
+      loads-in f h passed (replicate n 0) (omega arith) (h .count) i x (omega arith) l w
+
+  image-out : (x : ℕ) → ((i : ℕ) → i < h .count → FilePart (headerAt f h i) x → ⊥) → getD image x 0 ≡ 0
+  image-out x out =
+      let z = length-replicate {A = ℕ} n 0 in
+      loads-out f h passed (replicate n 0) (omega arith) (h .count) x (omega arith) out ∙ replicate-zero n x
+
+  -- a PT_LOAD backs a byte exactly where its file part holds it
+  backs-part : (x i : ℕ) → i < h .count → backsAt f h x 1 i ≡ true → FilePart (headerAt f h i) x
+  backs-part x i l e =
+      let t = sym (idle f h headed passed .backed x 1 i l) ∙ e in
+      let c = covers-within (headerAt f h i .vaddr) (headerAt f h i .filesz) x 1 (and-right (isLoad (headerAt f h i)) _ t) in
+      record { loads = and-left (isLoad (headerAt f h i)) _ t; first-byte = c .0; last-byte = omega arith }
+
+  part-backs : (x i : ℕ) → i < h .count → FilePart (headerAt f h i) x → backsAt f h x 1 i ≡ true
+  unfolding covers
+  part-backs x i l w =
+      let s = headerAt f h i in
+      let a = le-leb (s .vaddr) x (w .first-byte) in
+      let b = w .last-byte in
+      let c = le-leb (x + 1) (s .vaddr + s .filesz) (omega arith) in
+      idle f h headed passed .backed x 1 i l ∙ rw (w .loads, a, c)
+
+  byte-loaded : (x : ℕ) → getD image x 0 ≡ byteOf f (backingOf f h x 1)
+  unfolding backingOf backer
+  byte-loaded x =
+      ⊎-elim
+      (λ (e : first (backsAt f h x 1) 0 (h .count) ≡ h .count).
+      let none = first-all (backsAt f h x 1) (h .count) 0 (e ∙ omega arith) in
+      rw (e, le-ltb (h .count) (h .count) (omega arith))
+      (image-out x (λ i l w. not-both (backsAt f h x 1 i) (part-backs x i l w) (none i (omega arith) (omega arith)))))
+      (λ (l : first (backsAt f h x 1) 0 (h .count) < h .count).
+      let i = first (backsAt f h x 1) 0 (h .count) in
+      let hit = first-true (backsAt f h x 1) (h .count) 0 (omega arith) in
+      rw (lt-ltb i (h .count) l) (image-in i x l (backs-part x i l hit)))
+      (eq-or-lt-of-le (omega (arith, first-le (backsAt f h x 1) (h .count) 0)))
+
+  words-loaded : (k x : ℕ) → le k image x ≡ loadedIn f h k x
+  unfolding le loadedIn
+  words-loaded zero x = refl
+  words-loaded (suc k) x = let b = byte-loaded x in let r = words-loaded k (x + 1) in rw (b, r)
+
+pub image-holds : (f : List ℕ) (m : Module) (n : ℕ) → headersOf f ≡ good (m .headers) → loadsCheck f (m .headers) ≡ good tt
+    → loadsEnd f (m .headers) ≤ n → Image f m n (imageOf f (m .headers) n)
+image-holds f m n headed passed fits = record {
+  image-length = image-size f (m .headers) n;
+  from-file = image-in f (m .headers) headed passed n fits;
+  all-others = image-out f (m .headers) headed passed n fits;
+  loaded-words = words-loaded f (m .headers) headed passed n fits 8;
+}

@@ -1,11 +1,10 @@
 pub mod Lowest
 pub mod Table
-pub mod Checks
 pub mod Exactly
 pub mod Reading
 pub mod Plane
-pub mod Image
 pub mod Guards
+pub mod Image
 pub mod Plain
 pub mod Sources
 pub mod Standing

@@ -5,39 +5,49 @@ use mathlib.Core.Path.{_≡_, refl, sym, ap, _∙_}
 use mathlib.Core.Bool.{Bool, true, false, cond, not, _&&_, _||_}
 use mathlib.Core.List.{List}
 use mathlib.Core.Logic.{⊎-elim}
+use native.Mathlib.Nat.{zero-add}
 use native.Mathlib.Omega.{arith}
 use lib.ListN.{length, replicate, length-replicate}
 use lib.Dec.{leb, eqb}
 use lib.IntN.{ℤ, pos, negsuc, _+ℤ_, natAbs}
 use borrow.Author.Tests.{le-leb, lt-leb, le-ltb, lt-ltb}
-use Rattle.rules.specs.Outcome.{good}
+use Rattle.rules.specs.Outcome.{Outcome, good, passed}
+use Rattle.rules.specs.Checks.{runs}
 use Rattle.rules.specs.Limits.{addressLimit}
 use Rattle.rules.specs.Bytes.{le, part}
-use Rattle.rules.specs.First.{faultless}
+use Rattle.rules.specs.First.{faultsAt}
 use Rattle.rules.specs.Memory.{bytesOf, putWord, signed}
-use Rattle.rules.specs.Headers.{headersOf}
-use Rattle.rules.specs.Segments.{headerAt, isLoad, loadsCheck}
-use Rattle.rules.specs.Dynamic.{entryOf}
-use Rattle.rules.specs.Relocations.{abs64, globDat, relative, placeAt, kindAt, symbolAt, addendAt, live, symbolBacking, symbolOf}
-use Rattle.rules.specs.Relocations.{targetOf, namedTarget, target, targetAt, barred, badRelocation, firstBad, relocationsIn, relocationsCheck}
-use Rattle.rules.specs.Load.{loadsEnd, loadsOver, baseOf, outOfRange, natural, addressAt, badAddress, addressesCheck, writes}
+use Rattle.rules.specs.Headers.{headerChecks, headersOf}
+use Rattle.rules.specs.Segments.{headerAt, isLoad, loadsCheck, loadsEnd}
+use Rattle.rules.specs.Relocations.{abs64, globDat, relative, placeAt, kindAt, symbolAt, addendAt, live, items, positionAt}
+use Rattle.rules.specs.Relocations.{symbolBacking, symbolOf, targetOf, namedTarget, target, barred}
+use Rattle.rules.specs.Relocations.{hasPlace, taken, goodPlace, badRelocation, firstBad, relocationsCheck}
+use Rattle.rules.specs.Addresses.{baseOf, outOfRange, natural, addressAt, addressesCheck}
+use Rattle.rules.specs.Dynamic.{dynamicOf, baseTags, entriesCheck}
+use Rattle.rules.specs.Tables.{relocationsOf}
+use Rattle.rules.specs.Reader.{theModule}
+use Rattle.rules.specs.Lending.{memoryFits}
+use Rattle.rules.specs.Image.{loadsOver}
+use Rattle.rules.specs.Words.{writes}
 use Rattle.rules.specs.declared.Headers.{Headers}
 use Rattle.rules.specs.declared.Backing.{Backing}
-use Rattle.rules.specs.declared.Backing.the-variants as place
+use Rattle.rules.specs.declared.Backing.the-variants as backing
 use Rattle.rules.specs.declared.Entry.{Entry}
 use Rattle.rules.specs.declared.Entry.the-variants.{Absent, Value}
-use Rattle.rules.specs.declared.Dynamic.{Dynamic}
-use Rattle.rules.specs.declared.Relocations.{Relocations}
+use Rattle.rules.specs.declared.Module.{Module}
 use Rattle.rules.specs.declared.Target.{Target}
 use Rattle.rules.specs.declared.Target.the-variants.{Base, Defined, Undefined, Barred}
 use Rattle.rules.proofs.MemoryLaws.{put-split}
-use Rattle.rules.proofs.OutcomeLaws.{cond-held}
-use Rattle.laws.proofs.Checks.{cond-both, or-left, and-false, le-or-lt, end-all, faultless-all, all-faultless}
+use Rattle.rules.proofs.OutcomeLaws.{andThen-good, require-true}
+use Rattle.rules.proofs.ChecksLaws.{all-runs, runs-all}
+use Rattle.laws.proofs.Checks.{cond-both, le-or-lt, all-faults}
 use Rattle.laws.proofs.Loads.{load-good, load-end}
+use Rattle.laws.proofs.Places.{address-ranged, target-allowed}
 use Rattle.laws.proofs.Writes.{Apart, writes-length}
 use Rattle.demands.proofs.Image.{loads-length, part-length}
 use Rattle.demands.proofs.Guards.{idle}
 use Rattle.demands.specs.Plain.{store, segmentsOf, symbolEntry, symbolAddress, bareAddress, offRange, badBare, bareWords}
+use Rattle.demands.specs.Plain.{plainModule, plainChecks, plainMemory, plainOf}
 
 -- an address is out of range in both loaders or in none
 range-same : (z : ℤ) → offRange z ≡ outOfRange z
@@ -55,8 +65,8 @@ in-range-same (negsuc x) h = absurd (let z : _≡_ {A = ℕ} 0 1 = cc in omega a
 -- a symbol that is allowed has the address that its target has
 named-base : (f : List ℕ) (bias : ℕ) (p : Backing) → barred (namedTarget f p) ≡ false → baseOf bias (namedTarget f p) ≡ symbolAddress f bias p
 unfolding namedTarget targetOf symbolOf
-named-base f bias place.Nowhere h = absurd (let z : _≡_ {A = ℕ} 0 1 = cc in omega arith)
-named-base f bias (place.At at) h =
+named-base f bias backing.Nowhere h = absurd (let z : _≡_ {A = ℕ} 0 1 = cc in omega arith)
+named-base f bias (backing.At at) h =
     go (eqb (symbolOf f at .info % 16) 6 || eqb (symbolOf f at .info % 16) 10) (leb 0xff00 (le 2 f (at + 6))) (eqb (le 2 f (at + 6)) 0)
     (eqb (symbolOf f at .info / 16) 2) h
   where
@@ -90,67 +100,59 @@ target-base f h symbols bias kind symbol t =
     go false false true t = ap pos (named-base f bias (symbolBacking f h symbol symbols) t)
     go false b false t = absurd (let z : _≡_ {A = ℕ} 0 1 = cc in omega arith)
 
-module _ (f : List ℕ) (h : Headers) (headed : headersOf f ≡ good h) (loads : loadsCheck f h ≡ good tt) where
+module _ (f : List ℕ) (m : Module) (headed : headersOf f ≡ good (m .headers)) (loads : loadsCheck f (m .headers) ≡ good tt) where
   -- a symbol's entry, without the guard of the rules
-  entry-same : (symbols : Entry) (n : ℕ) → symbolBacking f h n symbols ≡ symbolEntry f h symbols n
+  entry-same : (symbols : Entry) (n : ℕ) → symbolBacking f (m .headers) n symbols ≡ symbolEntry f (m .headers) symbols n
   unfolding symbolBacking
   entry-same Absent n = refl
-  entry-same (Value table) n = idle f h headed loads .symbol-backed n table
+  entry-same (Value table) n = idle f (m .headers) headed loads .symbol-backed n table
 
-  module _ (d : Dynamic) (r : Relocations) (bias : ℕ) (checked : relocationsCheck f h d r ≡ good tt) where
-    target-allowed : (k : ℕ) → k < r .entries → live f r k ≡ true → barred (targetAt f h d r k) ≡ false
-    unfolding relocationsCheck relocationsIn badRelocation firstBad
-    target-allowed k l t =
-        let s = entryOf f d 6 in
-        let n = cond-held _ (eqb (firstBad f h s r) (r .entries)) _ checked in
-        or-left (barred (targetAt f h d r k)) _ (and-false (live f r k) _ (end-all (badRelocation f h s r) (r .entries) (n .0) k l) t)
-
-    address-same : (k : ℕ) → k < r .entries → live f r k ≡ true → addressAt f h d r bias k ≡ bareAddress f h d r bias k
+  module _ (bias : ℕ) (checked : relocationsCheck f m ≡ good tt) where
+    address-same : (k : ℕ) → k < items m → live f m k ≡ true → addressAt f m bias k ≡ bareAddress f m bias k
     address-same k l t =
-        ap (λ (b : ℤ). b +ℤ signed (addendAt f r k))
-        (target-base f h (entryOf f d 6) bias (kindAt f r k) (symbolAt f r k) (target-allowed k l t)
-        ∙ ap (λ (p : Backing). cond (eqb (kindAt f r k) relative) (pos bias) (pos (symbolAddress f bias p))) (entry-same (entryOf f d 6) (symbolAt f r k)))
+        ap (λ (b : ℤ). b +ℤ signed (addendAt f m k))
+        (target-base f (m .headers) (m .symbols) bias (kindAt f m k) (symbolAt f m k) (target-allowed f m checked k l t)
+        ∙ ap (λ (p : Backing). cond (eqb (kindAt f m k) relative) (pos bias) (pos (symbolAddress f bias p)))
+        (entry-same (m .symbols) (symbolAt f m k)))
 
     -- check 13
-    pub bare-checked : addressesCheck f h d r bias ≡ good tt → faultless 13 (badBare f h d r bias) (r .entries) ≡ good tt
-    unfolding addressesCheck badAddress badBare
-    bare-checked e =
-        all-faultless (badBare f h d r bias) 13 (r .entries)
-        (λ k l. go k l (live f r k) refl (faultless-all (badAddress f h d r bias) 13 (r .entries) e k l))
+    pub bare-checked : addressesCheck f m bias ≡ good tt → faultsAt 13 (positionAt m) (badBare f m bias) (items m) ≡ good tt
+    unfolding badBare
+    bare-checked e = all-faults (badBare f m bias) 13 (positionAt m) (items m) (λ k l. go k l (live f m k) refl)
       where
-        go : (k : ℕ) → k < r .entries → (b : Bool) → live f r k ≡ b → (live f r k && outOfRange (addressAt f h d r bias k)) ≡ false
-            → (live f r k && offRange (bareAddress f h d r bias k)) ≡ false
-        go k l false q o = rw q
-        go k l true q o = rw (range-same (bareAddress f h d r bias k), ← address-same k l q) o
+        go : (k : ℕ) → k < items m → (b : Bool) → live f m k ≡ b → (live f m k && offRange (bareAddress f m bias k)) ≡ false
+        go k l false q = rw q
+        go k l true q = rw (q, range-same (bareAddress f m bias k), ← address-same k l q) (address-ranged f m bias e k l q)
 
     -- the words
-    module _ (in-range : addressesCheck f h d r bias ≡ good tt) (m : List ℕ) (apart : Apart f r (length m) (r .entries)) where
-      word-same : (k : ℕ) → k < r .entries → live f r k ≡ true → natural (addressAt f h d r bias k) ≡ natAbs (bareAddress f h d r bias k)
-      unfolding addressesCheck badAddress
-      word-same k l t =
-          in-range-same (addressAt f h d r bias k) (and-false (live f r k) _ (faultless-all (badAddress f h d r bias) 13 (r .entries) in-range k l) t)
-          ∙ ap natAbs (address-same k l t)
+    module _ (in-range : addressesCheck f m bias ≡ good tt) (memory : List ℕ) (apart : Apart (live f m) (placeAt f m) (length memory) 0 (items m)) where
+      -- the bare word of an item
+      abbrev pub bareWord : ℕ → ℕ
+      bareWord k = natural (addressAt f m bias k)
 
-      pub bare-words : (n : ℕ) → n ≤ r .entries → bareWords f h d r bias m n ≡ writes f r (λ k. natural (addressAt f h d r bias k)) m n
+      word-same : (k : ℕ) → k < items m → live f m k ≡ true → bareWord k ≡ natAbs (bareAddress f m bias k)
+      word-same k l t = in-range-same (addressAt f m bias k) (address-ranged f m bias in-range k l t) ∙ ap natAbs (address-same k l t)
+
+      pub bare-words : (n : ℕ) → n ≤ items m → bareWords f m bias memory n ≡ writes (live f m) (placeAt f m) bareWord memory 0 n
       unfolding bareWords writes putWord
       bare-words zero u = refl
-      bare-words (suc k) u = go (eqb (kindAt f r k) 0) refl (bare-words k (omega arith))
+      bare-words (suc k) u = rw zero-add (go (eqb (kindAt f m k) 0) refl (bare-words k (omega arith)))
         where
-          w : ℕ → ℕ
-          w = λ k. natural (addressAt f h d r bias k)
+          W : List ℕ
+          W = writes (live f m) (placeAt f m) bareWord memory 0 k
 
           B : List ℕ
-          B = bareWords f h d r bias m k
+          B = bareWords f m bias memory k
 
-          go : (b : Bool) → eqb (kindAt f r k) 0 ≡ b → B ≡ writes f r w m k
-              → cond b B (store B (placeAt f r k) (bytesOf 8 (natAbs (bareAddress f h d r bias k))))
-              ≡ cond (not b) (putWord (writes f r w m k) (placeAt f r k) (w k)) (writes f r w m k)
+          go : (b : Bool) → eqb (kindAt f m k) 0 ≡ b → B ≡ W
+              → cond b B (store B (placeAt f m k) (bytesOf 8 (natAbs (bareAddress f m bias k))))
+              ≡ cond (not b) (putWord W (placeAt f m k) (bareWord k)) W
           go true q ih = ih
           go false q ih =
-              let t : live f r k ≡ true = rw q in
-              let i = apart .inside k (omega arith) t in
-              let z = writes-length f r m w k in
-              rw (ih, ← word-same k (omega arith) t) (sym (put-split (placeAt f r k) (writes f r w m k) (bytesOf 8 (w k)) (omega arith)))
+              let t : live f m k ≡ true = rw q in
+              let i = apart .inside k (omega arith) (omega arith) t in
+              let z = writes-length (live f m) (placeAt f m) memory 0 bareWord k in
+              rw (ih, ← word-same k (omega arith) t) (sym (put-split (placeAt f m k) W (bytesOf 8 (bareWord k)) (omega arith)))
 
 -- the segments
 pub segments-same : (f : List ℕ) (h : Headers) (n : ℕ) → loadsCheck f h ≡ good tt → loadsEnd f h ≤ n → (k : ℕ) → k ≤ h .count
@@ -170,3 +172,57 @@ segments-same f h n passed fits (suc k) u =
     let size = part-length f (s .offset) (s .filesz) (g .in-file) in
     sym (put-split (s .vaddr) (loadsOver f h (replicate n 0) k) (part f (s .offset) (s .filesz)) (omega arith)))
     (λ t. refl))
+
+-- ---- the call as a whole: what the plain loader knows of a module is what it looks at
+
+abbrev bareOf : Module → Module
+bareOf m = record {
+  headers = m .headers;
+  dynamic = m .dynamic;
+  symbols = m .symbols;
+  relocations = m .relocations;
+  descriptors = record { at = 0; bytes = 0 };
+  globals = 0;
+}
+
+bare-relocations : (f : List ℕ) (m : Module) → relocationsCheck f (bareOf m) ≡ relocationsCheck f m
+unfolding relocationsCheck firstBad badRelocation goodPlace taken hasPlace
+bare-relocations f m = refl
+
+bare-addresses : (f : List ℕ) (m : Module) (bias : ℕ)
+    → faultsAt 13 (positionAt m) (badBare f (bareOf m) bias) (items m) ≡ faultsAt 13 (positionAt m) (badBare f m bias) (items m)
+unfolding badBare
+bare-addresses f m bias = refl
+
+bare-same : (f : List ℕ) (m : Module) (bias : ℕ) (memory : List ℕ) (n : ℕ) → bareWords f (bareOf m) bias memory n ≡ bareWords f m bias memory n
+unfolding bareWords
+bare-same f m bias memory zero = refl
+bare-same f m bias memory (suc n) = let ih = bare-same f m bias memory n in rw ih
+
+pub passed-of : {A : Type 0} {a : A} {o : Outcome A} → o ≡ good a → passed o ≡ good tt
+passed-of e = rw e
+
+-- the checks that pass, and the memory
+pub plain-module : (f : List ℕ) (m : Module) (bias n : ℕ) → m ≡ theModule f → headersOf f ≡ good (m .headers) → loadsCheck f (m .headers) ≡ good tt
+    → passed (dynamicOf f (m .headers)) ≡ good tt → entriesCheck baseTags f (m .dynamic) ≡ good tt
+    → passed (relocationsOf f (m .headers) (m .dynamic)) ≡ good tt → relocationsCheck f m ≡ good tt
+    → memoryFits (loadsEnd f (m .headers)) n bias ≡ true → faultsAt 13 (positionAt m) (badBare f m bias) (items m) ≡ good tt
+    → plainOf f bias n ≡ good (plainMemory f (plainModule f) bias n)
+unfolding plainOf headersOf
+plain-module f m bias n found headed loads dynamic entries relocations relocates fits addresses =
+    let M = theModule f in
+    let h = runs-all (headerChecks f) (andThen-good (runs (headerChecks f)) _ headed .here) in
+    let a = rw found at loads in
+    let b = rw found at dynamic in
+    let c = rw found at entries in
+    let d = rw found at relocations in
+    let e : relocationsCheck f (plainModule f) ≡ good tt = bare-relocations f M ∙ rw found at relocates in
+    let g = rw found at fits in
+    let i : faultsAt 13 (positionAt M) (badBare f (plainModule f) bias) (items M) ≡ good tt = bare-addresses f M bias ∙ rw found at addresses in
+    let all = all-runs (plainChecks f (plainModule f) bias n)
+    (h .0, (h .1 .0, (h .1 .1 .0, (a, (b, (c, (d, (e, (require-true _ 12 0 g, (i, tt)))))))))) in
+    rw all
+
+pub plain-memory : (f : List ℕ) (m : Module) (bias n : ℕ) → m ≡ theModule f
+    → plainMemory f (plainModule f) bias n ≡ bareWords f m bias (segmentsOf f (m .headers) n (m .headers .count)) (items m)
+plain-memory f m bias n found = rw found (bare-same f (theModule f) bias _ (items (theModule f)))

@@ -13,7 +13,8 @@ use borrow.Author.Tests.{eqb-true, eqb-false, eq-eqb, leb-true, not-false}
 use Rattle.rules.specs.Outcome.{good, require}
 use Rattle.rules.specs.Limits.{granule}
 use Rattle.rules.specs.Memory.{over, put}
-use Rattle.rules.specs.Load.{globalAt, endOf, abuts, badChoice, choicesCheck, tagged, planeOf}
+use Rattle.rules.specs.Choices.{globalAt, endOf, abuts, choiceLeast, choiceLimit, badChoice, choicesFor}
+use Rattle.rules.specs.Plane.{tagged, planeOf}
 use Rattle.rules.specs.declared.Global.{Global}
 use Rattle.rules.proofs.MemoryLaws.{put-length, put-before, put-after, put-in}
 use Rattle.rules.proofs.OutcomeLaws.{and-left, and-right, andThen-good, require-held}
@@ -49,11 +50,11 @@ put-below b (y ∷ d) (suc a) s h g (suc x) = put-below b d a s (λ i. h (suc i)
 
 pub record Chosen (gs : List Global) (choices : List ℕ) : Type 0 where
   pub counted : length choices ≡ length gs
-  pub tag : (j : ℕ) → j < length gs → (1 ≤ getD choices j 0) × (getD choices j 0 ≤ 15)
+  pub tag : (j : ℕ) → j < length gs → (choiceLeast ≤ getD choices j 0) × (getD choices j 0 ≤ choiceLimit)
   pub differ : (j : ℕ) → suc j < length gs → endOf (globalAt gs j) ≡ globalAt gs (suc j) .start → getD choices j 0 ≡ getD choices (suc j) 0 → ⊥
 
-pub choices-chosen : (gs : List Global) (choices : List ℕ) → choicesCheck gs choices ≡ good tt → Chosen gs choices
-unfolding choicesCheck badChoice
+pub choices-chosen : (gs : List Global) (choices : List ℕ) → choicesFor gs choices ≡ good tt → Chosen gs choices
+unfolding choicesFor badChoice
 choices-chosen gs choices e =
     let a = andThen-good (require (eqb (length choices) (length gs)) 14 (length gs)) _ e in
     let fine = faultless-all (badChoice gs choices) 14 (length gs) (a .rest) in
@@ -61,12 +62,12 @@ choices-chosen gs choices e =
       counted = eqb-true (length choices) (length gs) (require-held (eqb (length choices) (length gs)) 14 (length gs) (a .here));
       tag = λ j l.
           let c = getD choices j 0 in
-          let t = not-false (leb 1 c && leb c 15) (or-left (not (leb 1 c && leb c 15)) _ (fine j l)) in
-          (leb-true 1 c (and-left (leb 1 c) _ t), leb-true c 15 (and-right (leb 1 c) _ t));
+          let t = not-false (leb choiceLeast c && leb c choiceLimit) (or-left (not (leb choiceLeast c && leb c choiceLimit)) _ (fine j l)) in
+          (leb-true choiceLeast c (and-left (leb choiceLeast c) _ t), leb-true c choiceLimit (and-right (leb choiceLeast c) _ t));
       differ = λ j l e q.
           let c = getD choices (suc j) 0 in
           let z : suc j - 1 ≡ j = omega arith in
-          let t = or-right (not (leb 1 c && leb c 15)) (abuts gs (suc j) && eqb (getD choices (suc j - 1) 0) c) (fine (suc j) l) in
+          let t = or-right (not (leb choiceLeast c && leb c choiceLimit)) (abuts gs (suc j) && eqb (getD choices (suc j - 1) 0) c) (fine (suc j) l) in
           let u = and-false (abuts gs (suc j)) (eqb (getD choices (suc j - 1) 0) c) t (eq-eqb (endOf (globalAt gs j)) (globalAt gs (suc j) .start) e) in
           eqb-false (getD choices j 0) c (rw z at u) q;
     }

@@ -9,39 +9,41 @@ use native.Mathlib.Omega.{arith}
 use lib.ListN.{length}
 use lib.Dec.{leb, ltb, eqb}
 use borrow.Author.Tests.{leb-true, ltb-true, eqb-true}
-use Rattle.rules.specs.Outcome.{Outcome, good, bad, refusal, found, require}
+use Rattle.rules.specs.Outcome.{Outcome, good, bad, refusal, found, passed, require}
+use Rattle.rules.specs.Checks.{Check, All, First}
 use Rattle.rules.specs.Limits.{entryLimit, globalLimit, headerLimit, dynamicLimit}
 use Rattle.rules.specs.Bytes.{le}
 use Rattle.rules.specs.First.{first}
-use Rattle.rules.specs.Headers.{wrongByte, goodHeader, headerCheck}
+use Rattle.rules.specs.Headers.{wrongByte, goodHeader, headerCheck, theHeaders}
 use Rattle.rules.specs.Segments.{badLoad}
-use Rattle.rules.specs.Dynamic.{entryOf, nullEntry, goodSize, dynamicAt, firstDynamic, secondDynamic, dynamicOf}
+use Rattle.rules.specs.Dynamic.{nullEntry, goodSize, dynamicAt, firstDynamic, secondDynamic, dynamicOf}
 use Rattle.rules.specs.Tables.{tableBacking, backed, relaAddress, relaBytes, relocationsOf}
-use Rattle.rules.specs.Descriptors.{number, globalsOf, descriptorTable}
-use Rattle.rules.specs.Relocations.{live, relocationsCheck, wordsOf}
-use Rattle.rules.specs.Examine.{moduleOf, factsOf, examinedOf}
-use Rattle.rules.specs.Load.{Loaded, loadOf, badAddress, globalsIn}
+use Rattle.rules.specs.Descriptors.{globalsOf, descriptorTable}
+use Rattle.rules.specs.Reader.{theDynamic, theRelocations, theDescriptors, theModule, readerChecks, moduleOf}
+use Rattle.rules.specs.Relocations.{live, items, relocationsCheck, wordsOf}
+use Rattle.rules.specs.Examine.{factsOf, moduleChecks, examineChecks, examinedOf}
+use Rattle.rules.specs.Addresses.{badAddress}
+use Rattle.rules.specs.Choices.{globalsIn}
+use Rattle.rules.specs.Load.{Loaded, loadOf, loadChecks}
 use Rattle.rules.specs.declared.Refusal.{Refusal}
 use Rattle.rules.specs.declared.Headers.{Headers}
 use Rattle.rules.specs.declared.Backing.{Backing}
 use Rattle.rules.specs.declared.Backing.the-variants.{At, Nowhere}
 use Rattle.rules.specs.declared.Dynamic.{Dynamic}
 use Rattle.rules.specs.declared.Relocations.{Relocations}
-use Rattle.rules.specs.declared.Entry.{Entry}
 use Rattle.rules.specs.declared.Descriptors.{Descriptors}
 use Rattle.rules.specs.declared.Global.{Global}
 use Rattle.rules.specs.declared.Module.{Module}
 use Rattle.rules.specs.declared.Facts.{Facts}
 use Rattle.rules.proofs.FirstLaws.{count-le}
 use Rattle.rules.proofs.OutcomeLaws.{and-left, and-right, andThen-good, require-held, cond-held}
+use Rattle.rules.proofs.ChecksLaws.{all-append}
 use Rattle.laws.proofs.Checks.{good-same}
-use Rattle.demands.proofs.Reading.{module-reads}
 use Rattle.laws.proofs.Globals.{globals-count}
+use Rattle.demands.proofs.Reading.{module-reads}
 use Rattle.demands.proofs.Exactly.{exactly-read, exactly-examined, exactly-loaded, taken-passes}
 use Rattle.demands.proofs.Table.{table}
-use Rattle.demands.specs.Table.{All, First, passed, theHeaders, theDynamic, theRelocations, theDescriptors, theGlobals, theModule}
-use Rattle.demands.specs.Table.{readerNumbers, examineNumbers, loadNumbers, listed, positionLimit}
-use Rattle.demands.specs.Table.{readerChecks, examineChecks, lentChecks, loadChecks, Lowest, Unread, EntryAt, Row}
+use Rattle.demands.specs.Table.{readerNumbers, examineNumbers, loadNumbers, listed, positionLimit, Lowest, Unread, ItemAt, Row}
 use Rattle.demands.specs.Table.{DynamicFault, no-dynamic, second-dynamic, bad-dynamic, EntryFault, bad-entry, no-partner}
 use Rattle.demands.specs.Table.{GlobalFault, ends-high, outside-loads, left-over, ChoiceFault, wrong-number, bad-choice}
 use Rattle.demands.specs.Demands.{Numbered, Counted, Examines}
@@ -69,24 +71,20 @@ within-more numbers more h = record {
 }
 
 -- of each check of a list, where those before it pass
-data Each (numbers : List ℕ) : List (Outcome (Unit {0})) → Type 0 where
+data Each (numbers : List ℕ) : List Check → Type 0 where
   none : Each numbers []
-  next : {c : Outcome (Unit {0})} {cs : List (Outcome (Unit {0}))} → Within numbers c → (c ≡ good tt → Each numbers cs) → Each numbers (c ∷ cs)
+  next : {c : Check} {cs : List Check} → Within numbers c → (c ≡ good tt → Each numbers cs) → Each numbers (c ∷ cs)
 
-first-within : (r : Refusal) (numbers : List ℕ) (cs : List (Outcome (Unit {0}))) → Each numbers cs → First cs r → Numbered numbers r
+first-within : (r : Refusal) (numbers : List ℕ) (cs : List Check) → Each numbers cs → First cs r → Numbered numbers r
 first-within r numbers [] none w = absurd w
 first-within r numbers (c ∷ cs) (next here later) (inl q) = here .within r q
 first-within r numbers (c ∷ cs) (next here later) (inr w) = first-within r numbers cs (later (w .0)) (w .1)
 
-each-more : (numbers more : List ℕ) (cs ds : List (Outcome (Unit {0}))) → Each numbers cs → (All cs → Each (numbers ++ more) ds)
+each-more : (numbers more : List ℕ) (cs ds : List Check) → Each numbers cs → (All cs → Each (numbers ++ more) ds)
     → Each (numbers ++ more) (cs ++ ds)
 each-more numbers more [] ds none w = w tt
 each-more numbers more (c ∷ cs) ds (next here later) w =
     next (within-more numbers more here) (λ a. each-more numbers more cs ds (later a) (λ all. w (a, all)))
-
-all-front : (cs ds : List (Outcome (Unit {0}))) → All (cs ++ ds) → All cs
-all-front [] ds a = tt
-all-front (c ∷ cs) ds a = (a .0, all-front cs ds (a .1))
 
 within-passed : {A : Type 0} {numbers : List ℕ} {o : Outcome A} → Within numbers o → Within numbers (passed o)
 within-passed {A} {numbers} {o} h = record { within = λ r e. go o (h .within r) e }
@@ -203,9 +201,8 @@ global-position f h s i (left-over c q w o) = omega arith
 unread-position : (f : List ℕ) (h : Headers) (s : List ℕ) (code : ℕ) → Bounded (Unread f h s code)
 unread-position f h s code i u = let l = u .counted in omega arith
 
-entry-at-position : (f : List ℕ) (h : Headers) (symbols : Entry) (t : Relocations) (kind : Bool) → t .entries ≤ entryLimit
-    → Bounded (EntryAt f h symbols t kind)
-entry-at-position f h symbols t kind l i w = let u = w .first .below in omega arith
+item-position : (f : List ℕ) (m : Module) (kind : Bool) → items m ≤ entryLimit → Bounded (ItemAt f m kind)
+item-position f m kind l i w = let u = w .first .below in omega arith
 
 choice-position : (gs : List Global) (choices : List ℕ) → length gs ≤ globalLimit → Bounded (ChoiceFault gs choices)
 choice-position gs choices l i (wrong-number e q) = omega arith
@@ -213,7 +210,7 @@ choice-position gs choices l i (bad-choice e a) = let u = a .below in omega arit
 
 -- the counts of a module
 pub module-counted : (f : List ℕ) (m : Module) → moduleOf f ≡ good m
-    → (m .relocations .entries ≤ entryLimit) × (length (globalsIn f m) ≤ globalLimit)
+    → (items m ≤ entryLimit) × (length (globalsIn f m) ≤ globalLimit)
 module-counted f m e =
     let r = module-reads f m e in (
       relocations-count f (m .headers) (m .dynamic) (m .relocations) (r .relocations),
@@ -254,33 +251,33 @@ module _ (f : List ℕ) where
           let s = descriptorTable f t in
           rows readerNumbers 8 9 refl refl (unread-position f H s 8) (global-position f H s) (table f .row-8 H t) (table f .row-9 H t)
 
+  abbrev M : Module
+  M = theModule f
+
   -- what the reader has counted
-  counted-most : All (readerChecks f) → (theRelocations f .entries ≤ entryLimit) × (length (globalsIn f (theModule f)) ≤ globalLimit)
-  counted-most a = module-counted f (theModule f) (exactly-read f .taken-if a)
+  counted-most : All (readerChecks f) → (items M ≤ entryLimit) × (length (globalsIn f M) ≤ globalLimit)
+  counted-most a = module-counted f M (exactly-read f .taken-if a)
+
+  walk-within : (numbers : List ℕ) → listed numbers 10 ≡ true → listed numbers 11 ≡ true → items M ≤ entryLimit
+      → Within numbers (relocationsCheck f M)
+  walk-within numbers ten eleven l =
+      rows numbers 10 11 ten eleven (item-position f M true l) (item-position f M false l) (table f .row-10 M) (table f .row-11 M)
 
   examine-each : Each examineNumbers (examineChecks f)
-  unfolding relocationsCheck
   examine-each =
       each-more readerNumbers (10 ∷ 11 ∷ []) (readerChecks f) _ reader-each (λ a.
-      let l = counted-most a .0 in
-      let S = entryOf f D 6 in
-      let R = theRelocations f in
-      let ten = entry-at-position f H S R true l in
-      let eleven = entry-at-position f H S R false l in
-      next (rows examineNumbers 10 11 refl refl ten eleven (table f .row-10 H S R) (table f .row-11 H S R)) (λ _. none))
+      next (walk-within examineNumbers refl refl (counted-most a .0)) (λ _. none))
 
   load-each : (bias n p : ℕ) (choices : List ℕ) → Each loadNumbers (loadChecks f bias n p choices)
   load-each bias n p choices =
-      each-more examineNumbers (12 ∷ 13 ∷ 14 ∷ []) (examineChecks f) (lentChecks f bias n p choices) examine-each (λ a.
-      let c = counted-most (all-front (readerChecks f) (relocationsCheck f H D (theRelocations f) ∷ []) a) in
-      let R = theRelocations f in
-      let gs = theGlobals f in
-      let l = c .1 in
-      let k = c .0 in
-      let thirteen = lowest-position (badAddress f H D R bias) 0 (R .entries) (omega arith) in
-      next (row loadNumbers 12 refl zero-position (table f .row-12 H bias n p)) (λ _.
-      next (row loadNumbers 13 refl thirteen (table f .row-13 H D R bias)) (λ _.
-      next (row loadNumbers 14 refl (choice-position gs choices l) (table f .row-14 gs choices)) (λ _. none))))
+      each-more readerNumbers (10 ∷ 11 ∷ 12 ∷ 13 ∷ 14 ∷ []) (readerChecks f) _ reader-each (λ a.
+      let k = counted-most a .0 in
+      let l = counted-most a .1 in
+      let thirteen = lowest-position (badAddress f M bias) 0 (items M) (omega arith) in
+      next (walk-within loadNumbers refl refl k) (λ _.
+      next (row loadNumbers 12 refl zero-position (table f .row-12 M bias n p)) (λ _.
+      next (row loadNumbers 13 refl thirteen (table f .row-13 M bias)) (λ _.
+      next (row loadNumbers 14 refl (choice-position (globalsIn f M) choices l) (table f .row-14 (globalsIn f M) choices)) (λ _. none)))))
 
   pub module-refusal : (r : Refusal) → moduleOf f ≡ bad r → Numbered readerNumbers r
   module-refusal r e = first-within r readerNumbers (readerChecks f) reader-each (exactly-read f .refused-only-if r e)
@@ -298,16 +295,14 @@ unfolding factsOf wordsOf
 facts-counted f m e =
     let c = module-counted f m e in
     let g = module-reads f m e .count in
-    let w = count-le (live f (m .relocations)) (m .relocations .entries) in
+    let w = count-le (live f m) (items m) in
     record { globals-most = omega arith; words-most = omega arith }
 
 pub examined-facts : (f : List ℕ) (a : Facts) → examinedOf f ≡ good a → Counted a
-unfolding examinedOf
 examined-facts f a e =
-    let b = andThen-good (moduleOf f) _ e in
-    let m = b .value in
-    let c = andThen-good (relocationsCheck f (m .headers) (m .dynamic) (m .relocations)) _ (b .rest) in
-    good-same (λ (a : Facts). Counted a) (factsOf f m) a (c .rest) (facts-counted f m (b .here))
+    let x = exactly-examined f .taken-only-if a e in
+    let m = exactly-read f .taken-if (all-append (readerChecks f) (moduleChecks f (theModule f)) (x .0) .0) in
+    rw (x .1) (facts-counted f (theModule f) m)
 
 pub examines : (f : List ℕ) → Examines f
 examines f = record { module-refusal = module-refusal f; examined-refusal = examined-refusal f; examined-facts = examined-facts f }

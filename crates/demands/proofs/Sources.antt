@@ -9,12 +9,9 @@ use lib.ListN.{length, getD}
 use lib.Dec.{leb, ltb}
 use borrow.Author.Tests.{leb-true, le-leb, lt-ltb}
 use Rattle.rules.specs.Limits.{granule}
-use Rattle.rules.specs.Bytes.{le}
-use Rattle.rules.specs.Relocations.{placeAt, addendAt, targetAt}
-use Rattle.rules.specs.Load.{globalAt, planeOf, Source, none, at, sourceOf, tagOf, tagOfEntry}
-use Rattle.rules.specs.declared.Headers.{Headers}
-use Rattle.rules.specs.declared.Dynamic.{Dynamic}
-use Rattle.rules.specs.declared.Relocations.{Relocations}
+use Rattle.rules.specs.Choices.{globalAt}
+use Rattle.rules.specs.Plane.{planeOf}
+use Rattle.rules.specs.Words.{Source, none, at, tagOf}
 use Rattle.rules.specs.declared.Global.{Global}
 use Rattle.rules.proofs.OutcomeLaws.{and-left}
 use Rattle.laws.proofs.Checks.{cond-case}
@@ -23,15 +20,10 @@ use Rattle.demands.proofs.Plane.{plane-holds, plane-empty}
 use Rattle.demands.specs.Demands.{Holds}
 
 module _ (plane : List ℕ) (below : (x : ℕ) → getD plane x 0 < 16) where
-  tagOf-small : (bias n : ℕ) (s : Source) → tagOf plane bias n s < 16
+  pub tagOf-small : (bias n : ℕ) (s : Source) → tagOf plane bias n s < 16
   tagOf-small bias n none = omega arith
   tagOf-small bias n (at s) =
       cond-case (λ (t : ℕ). t < 16) (leb bias s && ltb s (bias + n)) _ _ (λ q. below ((s - bias) / granule)) (λ q. omega arith)
-
-pub entry-small : (f : List ℕ) (h : Headers) (d : Dynamic) (r : Relocations) (bias : ℕ) (image plane : List ℕ) → ((x : ℕ) → getD plane x 0 < 16)
-    → (k : ℕ) → tagOfEntry f h d r bias image plane k < 16
-entry-small f h d r bias image plane below k =
-    tagOf-small plane below bias (length image) (sourceOf bias (targetAt f h d r k) (addendAt f r k) (le 8 image (placeAt f r k)))
 
 module _ (gs : List Global) (choices : List ℕ) (p limit : ℕ) (rising : Rising gs limit) (fits : limit ≤ 16 * p) (bias n : ℕ) (planed : 16 * p ≡ n) where
   pub tag-held : (j : ℕ) → j < length gs → (s : Source) → Holds bias (globalAt gs j) s → tagOf (planeOf gs choices p) bias n s ≡ getD choices j 0

@@ -21,25 +21,27 @@ use Rattle.rules.specs.Dynamic.{knownTags, badEntry, partnerless, entriesCheck}
 use Rattle.rules.specs.Tables.{tableBacking, backed, relaAddress, relaBytes, descriptorAddress, descriptorBytes, relocationsOf, descriptorsOf}
 use Rattle.rules.specs.Descriptors.{Uleb, number, malformed, Read, finished, global, ulebAt, globalAfter, second, descriptor, stepAt}
 use Rattle.rules.specs.Descriptors.{onGlobal, globalsFrom, globalsOf, descriptorTable, tableStart}
-use Rattle.rules.specs.Relocations.{targetIn, barred, badRelocation, firstBad, relocationsIn}
-use Rattle.rules.specs.Load.{badAddress, addressesCheck, badChoice, choicesCheck}
+use Rattle.rules.specs.Relocations.{items, targetAt, barred, badRelocation, firstBad, relocationsCheck}
+use Rattle.rules.specs.Lending.{lendingFits, lendingCheck}
+use Rattle.rules.specs.Addresses.{badAddress, addressesCheck}
+use Rattle.rules.specs.Choices.{badChoice, choicesFor}
 use Rattle.rules.specs.declared.Refusal.{Refusal}
 use Rattle.rules.specs.declared.Headers.{Headers}
 use Rattle.rules.specs.declared.Dynamic.{Dynamic}
 use Rattle.rules.specs.declared.Backing.{Backing}
 use Rattle.rules.specs.declared.Backing.the-variants.{At, Nowhere}
 use Rattle.rules.specs.declared.Relocations.{Relocations}
-use Rattle.rules.specs.declared.Entry.{Entry}
 use Rattle.rules.specs.declared.Descriptors.{Descriptors}
 use Rattle.rules.specs.declared.Global.{Global}
 use Rattle.rules.specs.declared.Cursor.{Cursor}
+use Rattle.rules.specs.declared.Module.{Module}
 use Rattle.rules.proofs.FirstLaws.{first-le}
 use Rattle.rules.proofs.OutcomeLaws.{require-held}
 use Rattle.laws.proofs.Checks.{andThen-bad, require-stopped, faultless-all, all-faultless, some-at, some-all}
 use Rattle.demands.proofs.Lowest.{not-both, cond-bad, lowest-first, first-lowest, clear-first, first-clear, faultless-lowest, lowest-faultless}
-use Rattle.demands.specs.Table.{listed, Lowest, Reaches, fits, Row, Table}
+use Rattle.demands.specs.Table.{listed, Lowest, Reaches, Row, Table}
 use Rattle.demands.specs.Table.{DynamicFault, no-dynamic, second-dynamic, bad-dynamic, EntryFault, bad-entry, no-partner, Unread}
-use Rattle.demands.specs.Table.{GlobalFault, ends-high, outside-loads, left-over, EntryAt, ChoiceFault, wrong-number, bad-choice}
+use Rattle.demands.specs.Table.{GlobalFault, ends-high, outside-loads, left-over, ItemAt, ChoiceFault, wrong-number, bad-choice}
 
 -- a refusal with a number, at a position
 abbrev By : ℕ → (ℕ → Type 0) → Refusal → Type 0
@@ -323,45 +325,44 @@ module _ (f : List ℕ) where
           (λ (u : By 9 (GlobalFault f h (descriptorTable f t)) r). fault-when (u .0) (u .1 .1) ∙ rw (u .1 .0)) w;
     }
 
-  module _ (h : Headers) (symbols : Entry) (t : Relocations) where
+  module _ (m : Module) where
     abbrev Barred : Refusal → Type 0
-    Barred r = By 10 (EntryAt f h symbols t true) r ⊎ By 11 (EntryAt f h symbols t false) r
+    Barred r = By 10 (ItemAt f m true) r ⊎ By 11 (ItemAt f m false) r
 
-    entry-says : (r : Refusal) → relocationsIn f h symbols t ≡ bad r → Barred r
-    unfolding relocationsIn firstBad
-    entry-says r e =
-        cond-bad (eqb (first (badRelocation f h symbols t) 0 (t .entries)) (t .entries)) _ _ e
+    item-says : (r : Refusal) → relocationsCheck f m ≡ bad r → Barred r
+    unfolding relocationsCheck firstBad
+    item-says r e =
+        cond-bad (eqb (first (badRelocation f m) 0 (items m)) (items m)) _ _ e
         (λ _ q. absurd (let z : _≡_ {A = ℕ} 0 1 = cc in omega arith))
         (λ a q.
-        let ne = eqb-false (first (badRelocation f h symbols t) 0 (t .entries)) (t .entries) a in
-        let l = first-le (badRelocation f h symbols t) (t .entries) 0 in
-        let i = first (badRelocation f h symbols t) 0 (t .entries) in
-        go (first (badRelocation f h symbols t) 0 (t .entries))
-        (first-lowest (badRelocation f h symbols t) 0 (t .entries) (t .entries) (omega arith) (omega arith))
-        (barred (targetIn f h symbols t (first (badRelocation f h symbols t) 0 (t .entries)))) refl q)
+        let ne = eqb-false (first (badRelocation f m) 0 (items m)) (items m) a in
+        let l = first-le (badRelocation f m) (items m) 0 in
+        go (first (badRelocation f m) 0 (items m))
+        (first-lowest (badRelocation f m) 0 (items m) (items m) (omega arith) (omega arith))
+        (barred (targetAt f m (first (badRelocation f m) 0 (items m)))) refl q)
       where
-        go : (i : ℕ) → Lowest (badRelocation f h symbols t) 0 (t .entries) i → (b : Bool) → barred (targetIn f h symbols t i) ≡ b
+        go : (i : ℕ) → Lowest (badRelocation f m) 0 (items m) i → (b : Bool) → barred (targetAt f m i) ≡ b
             → r ≡ refusal (cond b 10 11) i → Barred r
         go i l true x q = inl (i, (q, record { first = l; by-kind = x }))
         go i l false x q = inr (i, (q, record { first = l; by-kind = x }))
 
-    entry-when : (kind : Bool) (i : ℕ) → EntryAt f h symbols t kind i → relocationsIn f h symbols t ≡ bad (refusal (cond kind 10 11) i)
-    unfolding relocationsIn firstBad
-    entry-when kind i u =
+    item-when : (kind : Bool) (i : ℕ) → ItemAt f m kind i → relocationsCheck f m ≡ bad (refusal (cond kind 10 11) i)
+    unfolding relocationsCheck firstBad
+    item-when kind i u =
         let l = u .first .below in
-        let a = lowest-first (badRelocation f h symbols t) 0 (t .entries) (t .entries) (omega arith) i (u .first) in
-        rw (a, ne-eqb i (t .entries) (λ z. omega arith), u .by-kind)
+        let a = lowest-first (badRelocation f m) 0 (items m) (items m) (omega arith) i (u .first) in
+        rw (a, ne-eqb i (items m) (λ z. omega arith), u .by-kind)
 
-    entry-refuses : Refuses (relocationsIn f h symbols t) Barred
-    entry-refuses = record {
-      says = entry-says;
+    item-refuses : Refuses (relocationsCheck f m) Barred
+    item-refuses = record {
+      says = item-says;
       when = λ r w. ⊎-elim
-          (λ (u : By 10 (EntryAt f h symbols t true) r). entry-when true (u .0) (u .1 .1) ∙ rw (u .1 .0))
-          (λ (u : By 11 (EntryAt f h symbols t false) r). entry-when false (u .0) (u .1 .1) ∙ rw (u .1 .0)) w;
+          (λ (u : By 10 (ItemAt f m true) r). item-when true (u .0) (u .1 .1) ∙ rw (u .1 .0))
+          (λ (u : By 11 (ItemAt f m false) r). item-when false (u .0) (u .1 .1) ∙ rw (u .1 .0)) w;
     }
 
-choices-says : (gs : List Global) (choices : List ℕ) (r : Refusal) → choicesCheck gs choices ≡ bad r → By 14 (ChoiceFault gs choices) r
-unfolding choicesCheck
+choices-says : (gs : List Global) (choices : List ℕ) (r : Refusal) → choicesFor gs choices ≡ bad r → By 14 (ChoiceFault gs choices) r
+unfolding choicesFor
 choices-says gs choices r e =
     andThen-bad (require (eqb (length choices) (length gs)) 14 (length gs)) _ e
     (λ q.
@@ -371,10 +372,12 @@ choices-says gs choices r e =
     let l = faultless-lowest (badChoice gs choices) 14 (length gs) q in
     (l .0, (l .1 .1, bad-choice (eqb-true _ _ (require-held _ 14 (length gs) c)) (l .1 .0))))
 
-choices-when : (gs : List Global) (choices : List ℕ) (i : ℕ) → ChoiceFault gs choices i → choicesCheck gs choices ≡ bad (refusal 14 i)
-unfolding choicesCheck
+choices-when : (gs : List Global) (choices : List ℕ) (i : ℕ) → ChoiceFault gs choices i → choicesFor gs choices ≡ bad (refusal 14 i)
+unfolding choicesFor
 choices-when gs choices i (wrong-number e q) = rw (ne-eqb (length choices) (length gs) e, q)
-choices-when gs choices i (bad-choice e l) = let s = lowest-faultless (badChoice gs choices) 14 (length gs) i l in rw (eq-eqb (length choices) (length gs) e, s)
+choices-when gs choices i (bad-choice e l) =
+    let s = lowest-faultless (badChoice gs choices) 14 (length gs) i l in
+    rw (eq-eqb (length choices) (length gs) e, s)
 
 -- a check of one number, and one of two
 same-position : {P : ℕ → Type 0} (code i : ℕ) → By code P (refusal code i) → P i
@@ -419,7 +422,7 @@ module _ {A : Type 0} {P Q : ℕ → Type 0} {c : Outcome A} (one two : ℕ) (ap
   }
 
 pub table : (f : List ℕ) → Table f
-unfolding identificationCheck headerCheck loadsCheck addressesCheck
+unfolding identificationCheck headerCheck loadsCheck lendingCheck addressesCheck
 table f = record {
   row-1 = one-row 1 (record {
     says = λ r e. let s = size-row f e in (0, (s .1, (refl, s .0)));
@@ -440,10 +443,10 @@ table f = record {
   });
   row-8 = λ h t. first-row 8 9 (λ z. omega arith) (walk-refuses f h t);
   row-9 = λ h t. second-row 8 9 (λ z. omega arith) (walk-refuses f h t);
-  row-10 = λ h symbols t. first-row 10 11 (λ z. omega arith) (entry-refuses f h symbols t);
-  row-11 = λ h symbols t. second-row 10 11 (λ z. omega arith) (entry-refuses f h symbols t);
-  row-12 = λ h bias n p. one-row 12 (require-refuses (fits f h bias n p) 12 0 (λ e. e) (λ e. e));
-  row-13 = λ h d t bias. one-row 13 (faultless-refuses 13 (t .entries) (badAddress f h d t bias));
+  row-10 = λ m. first-row 10 11 (λ z. omega arith) (item-refuses f m);
+  row-11 = λ m. second-row 10 11 (λ z. omega arith) (item-refuses f m);
+  row-12 = λ m bias n p. one-row 12 (require-refuses (lendingFits f m bias n p) 12 0 (λ e. e) (λ e. e));
+  row-13 = λ m bias. one-row 13 (faultless-refuses 13 (items m) (badAddress f m bias));
   row-14 = λ gs choices. one-row 14 (record {
     says = choices-says gs choices;
     when = λ r w. choices-when gs choices (w .0) (w .1 .1) ∙ rw (w .1 .0);

@@ -1,6 +1,6 @@
 -- A load against the plain loader, against its own plane, and against a load with other choices.
 -- Assumes nothing.
-use Prim.Native.Nat.{ℕ, suc, _*_, _≤_, _<_}
+use Prim.Native.Nat.{ℕ, suc, _+_, _*_, _≤_, _<_}
 use mathlib.Core.Path.{_≡_, refl, sym, ap, _∙_}
 use mathlib.Core.Bool.{true}
 use mathlib.Core.List.{List, []}
@@ -8,28 +8,34 @@ use mathlib.Core.Logic.{inl, inr, ⊎-elim}
 use native.Mathlib.Nat.{eq-or-lt-of-le}
 use native.Mathlib.Omega.{arith}
 use lib.ListN.{length, getD}
-use Rattle.rules.specs.Outcome.{Outcome, good, bad}
-use Rattle.rules.specs.Relocations.{relocationsCheck}
-use Rattle.rules.specs.Examine.{moduleOf}
-use Rattle.rules.specs.Load.{loadOf, loaded, loadsEnd, imageOf, natural, addressAt, addressesCheck, choicesCheck}
-use Rattle.rules.specs.Load.{globalsIn, globalAt, endOf, planeOf, tagOf, writes, memoryFits, planeFits}
+use Rattle.rules.specs.Outcome.{good, bad}
+use Rattle.rules.specs.Checks.{Check}
+use Rattle.rules.specs.Segments.{loadsEnd}
+use Rattle.rules.specs.Relocations.{placeAt, live, items}
+use Rattle.rules.specs.Addresses.{natural, addressAt}
+use Rattle.rules.specs.Choices.{globalsIn, globalAt, endOf, choicesFor}
+use Rattle.rules.specs.Image.{imageOf}
+use Rattle.rules.specs.Plane.{planeOf}
+use Rattle.rules.specs.Words.{sourceAt, writes}
+use Rattle.rules.specs.Load.{loadOf, loaded}
+use Rattle.rules.specs.Memory.{bytesOf}
 use Rattle.rules.specs.declared.Refusal.{Refusal}
 use Rattle.rules.specs.declared.Global.{Global}
 use Rattle.rules.specs.declared.Module.{Module}
 use Rattle.laws.proofs.Checks.{le-or-lt}
 use Rattle.laws.proofs.KnownTags.{entries-base}
-use Rattle.demands.proofs.Exactly.{Passes, passes-taken}
 use Rattle.laws.proofs.Globals.{Rising}
+use Rattle.laws.proofs.Writes.{writes-length, writes-agree, writes-at, low-bytes, top-byte, bare-byte}
+use Rattle.demands.proofs.Exactly.{Passes, passes-taken, passes-fits, load-refused}
 use Rattle.demands.proofs.Plane.{Chosen, plane-holds, plane-empty}
 use Rattle.demands.proofs.Image.{image-size}
 use Rattle.demands.proofs.Table.{table}
 use Rattle.demands.proofs.Refusals.{listed-one}
-use Rattle.demands.proofs.Plain.{segments-same, bare-checked, bare-words}
+use Rattle.demands.proofs.Plain.{segments-same, bare-checked, bare-words, passed-of, plain-module, plain-memory}
 use Rattle.demands.proofs.Sources.{tag-held, tag-unheld}
-use Rattle.laws.proofs.Writes.{writes-length, writes-agree, writes-at, low-bytes, top-byte, bare-byte}
-use Rattle.demands.proofs.Standing.{Stands, passes-stands, word, tag, tag-small}
+use Rattle.demands.proofs.Standing.{Stands, passes-stands, in-run, word, tag, tag-small}
 use Rattle.demands.specs.Plain.{plainOf}
-use Rattle.demands.specs.Demands.{Relocates, topPlace, sourceAt, Holds, Abut, NoTop, Agrees, Matches, Alike, Rechosen}
+use Rattle.demands.specs.Demands.{Relocates, topPlace, Holds, Abut, NoTop, Agrees, Matches, Alike, Rechosen}
 use Rattle.demands.specs.Demands.{refused-again, taken-again, Tags}
 
 -- of two globals in rising order, one that ends where the other starts is the one before it
@@ -67,86 +73,77 @@ choices-differ gs limit choices rising chosen i j l u (inr e) q =
     chosen .differ j (omega arith) (rw n e) (rw n q)
 
 -- check 14 refuses with its own number
-choices-number : (gs : List Global) (choices : List ℕ) (r : Refusal) → choicesCheck gs choices ≡ bad r → r .number ≡ 14
+choices-number : (gs : List Global) (choices : List ℕ) (r : Refusal) → choicesFor gs choices ≡ bad r → r .number ≡ 14
 choices-number gs choices r e = listed-one 14 (r .number) (table [] .row-14 gs choices .only r e)
 
-choices-refused : (f : List ℕ) (bias n p : ℕ) (choices : List ℕ) (m : Module) → moduleOf f ≡ good m
-    → relocationsCheck f (m .headers) (m .dynamic) (m .relocations) ≡ good tt → memoryFits (loadsEnd f (m .headers)) n bias ≡ true
-    → planeFits n p ≡ true → addressesCheck f (m .headers) (m .dynamic) (m .relocations) bias ≡ good tt
-    → (r : Refusal) → choicesCheck (globalsIn f m) choices ≡ bad r → loadOf f bias n p choices ≡ bad r
-unfolding loadOf
-choices-refused f bias n p choices m a b c d g r e = rw (a, b, c, d, g, e)
-
 module _ (f : List ℕ) (bias n p : ℕ) (m : Module) where
-  -- the bare word of an entry, and the plain memory
-  abbrev pub bareWord : ℕ → ℕ
-  bareWord k = natural (addressAt f (m .headers) (m .dynamic) (m .relocations) bias k)
+  abbrev image : List ℕ
+  image = imageOf f (m .headers) n
 
-  abbrev pub plainMemory : List ℕ
-  plainMemory = writes f (m .relocations) bareWord (imageOf f (m .headers) n) (m .relocations .entries)
+  -- the bare word of an item; memories with bare and with tagged words
+  abbrev bareWord : ℕ → ℕ
+  bareWord k = natural (addressAt f m bias k)
 
-  abbrev pub taggedMemory : List ℕ → List ℕ
-  taggedMemory choices = writes f (m .relocations) (word f bias n p choices m) (imageOf f (m .headers) n) (m .relocations .entries)
+  abbrev bareMemory : List ℕ
+  bareMemory = writes (live f m) (placeAt f m) bareWord image 0 (items m)
+
+  abbrev taggedMemory : List ℕ → List ℕ
+  taggedMemory choices = writes (live f m) (placeAt f m) (word f bias n p choices m) image 0 (items m)
 
   -- the plain loader takes what the load takes
-  plain-takes : (choices : List ℕ) → Passes f bias n p choices m → Stands f bias n p choices m → plainOf f bias n ≡ good plainMemory
-  unfolding plainOf
+  plain-takes : (choices : List ℕ) → Passes f bias n p choices m → Stands f bias n p choices m → plainOf f bias n ≡ good bareMemory
   plain-takes choices c s =
       let r = s .reading in
-      let e = entries-base f (m .dynamic) (r .entries) in
-      let H = m .headers in
-      let D = m .dynamic in
-      let R = m .relocations in
-      let b = bare-checked f H (r .headers) (r .loads) D R bias (c .relocates) (c .addresses) in
-      let i = segments-same f H n (r .loads) (s .lent .holds) (H .count) (omega arith) in
-      let w = bare-words f H (r .headers) (r .loads) D R bias (c .relocates) (c .addresses) (imageOf f H n) (s .apart) (R .entries) (omega arith) in
-      rw (r .headers, r .loads, r .dynamic, e, r .relocations, c .relocates, c .memory-fits, b, i, w)
+      plain-module f m bias n (r .found) (r .headers) (r .loads) (passed-of (r .dynamic)) (entries-base f (m .dynamic) (r .entries))
+      (passed-of (r .relocations)) (c .relocates) (passes-fits f bias n p choices m c .0)
+      (bare-checked f m (r .headers) (r .loads) bias (c .relocates) (c .addresses))
+      ∙ ap good (plain-memory f m bias n (r .found)
+      ∙ rw (segments-same f (m .headers) n (r .loads) (s .lent .holds) (m .headers .count) (omega arith))
+      (bare-words f m (r .headers) (r .loads) bias (c .relocates) (c .addresses) image (s .apart) (items m) (omega arith)))
 
-  -- memories with bare and with tagged words, or with tags of two lists of choices
-  bare-tagged : (choices : List ℕ) (x : ℕ) → NoTop f m x → getD plainMemory x 0 ≡ getD (taggedMemory choices) x 0
+  bare-tagged : (choices : List ℕ) (x : ℕ) → NoTop f m x → getD bareMemory x 0 ≡ getD (taggedMemory choices) x 0
   bare-tagged choices x out =
-      writes-agree f (m .relocations) (imageOf f (m .headers) n) bareWord (word f bias n p choices m)
-      (λ k. sym (low-bytes (bareWord k) (tag f bias n p choices m k))) (m .relocations .entries) x
-      (λ k l t. out k (record { listed = l; unskipped = t }))
+      writes-agree (live f m) (placeAt f m) image 0 bareWord (word f bias n p choices m)
+      (λ k. sym (low-bytes (bareWord k) (tag f bias n p choices m k))) (items m) x
+      (λ k _ l t. out k (record { listed = omega arith; unskipped = t }))
 
-  words-length : (choices : List ℕ) → length (taggedMemory choices) ≡ length (imageOf f (m .headers) n)
-  words-length choices = writes-length f (m .relocations) (imageOf f (m .headers) n) (word f bias n p choices m) (m .relocations .entries)
+  words-length : (choices : List ℕ) → length (taggedMemory choices) ≡ length image
+  words-length choices = writes-length (live f m) (placeAt f m) image 0 (word f bias n p choices m) (items m)
 
   module _ (choices : List ℕ) (s : Stands f bias n p choices m) where
     fits : loadsEnd f (m .headers) ≤ 16 * p
     fits = let h = s .lent .holds in let e = s .planed in omega arith
 
+    -- a byte of a word of either memory
+    byte-at : (w : ℕ → ℕ) (k j : ℕ) → Relocates f m k → j < 8
+        → getD (writes (live f m) (placeAt f m) w image 0 (items m)) (placeAt f m k + j) 0 ≡ getD (bytesOf 8 (w k)) j 0
+    byte-at w k j e l =
+        writes-at (live f m) (placeAt f m) image 0 w (items m) (s .apart) k j (omega arith) (in-run k (items m) (e .listed)) (e .unskipped) l
+
     top-tag : (k : ℕ) → Relocates f m k → getD (taggedMemory choices) (topPlace f m k) 0 ≡ tag f bias n p choices m k
     top-tag k e =
-        writes-at f (m .relocations) (imageOf f (m .headers) n) (word f bias n p choices m) (m .relocations .entries) (s .apart)
-        k 7 (e .listed) (e .unskipped) (omega arith)
+        byte-at (word f bias n p choices m) k 7 e (omega arith)
         ∙ top-byte (bareWord k) (tag f bias n p choices m k) (s .small k e) (tag-small f bias n p choices m s k)
 
-    entry-tag : (k : ℕ) → tag f bias n p choices m k ≡ tagOf (planeOf (globalsIn f m) choices p) bias n (sourceAt f m bias n k)
-    entry-tag k = ap (λ (z : ℕ). tagOf (planeOf (globalsIn f m) choices p) bias z (sourceAt f m bias n k)) (image-size f (m .headers) n)
-
-    held-top : (k j : ℕ) → Relocates f m k → j < length (globalsIn f m) → Holds bias (globalAt (globalsIn f m) j) (sourceAt f m bias n k)
+    held-top : (k j : ℕ) → Relocates f m k → j < length (globalsIn f m) → Holds bias (globalAt (globalsIn f m) j) (sourceAt f m bias k)
         → getD (taggedMemory choices) (topPlace f m k) 0 ≡ getD choices j 0
     held-top k j e l h =
-        top-tag k e ∙ entry-tag k
-        ∙ tag-held (globalsIn f m) choices p (loadsEnd f (m .headers)) (s .rising) fits bias n (s .planed) j l (sourceAt f m bias n k) h
+        top-tag k e
+        ∙ tag-held (globalsIn f m) choices p (loadsEnd f (m .headers)) (s .rising) fits bias n (s .planed) j l (sourceAt f m bias k) h
 
-    agrees : Agrees f bias n choices m plainMemory (taggedMemory choices)
+    agrees : Agrees f bias n choices m bareMemory (taggedMemory choices)
     agrees = record {
-      same-length = writes-length f (m .relocations) (imageOf f (m .headers) n) bareWord (m .relocations .entries)
-          ∙ sym (words-length choices);
+      same-length = writes-length (live f m) (placeAt f m) image 0 bareWord (items m) ∙ sym (words-length choices);
       others = bare-tagged choices;
-      bare = λ k e.
-          writes-at f (m .relocations) (imageOf f (m .headers) n) bareWord (m .relocations .entries) (s .apart) k 7 (e .listed) (e .unskipped) (omega arith)
-          ∙ bare-byte (bareWord k) (s .small k e);
+      bare = λ k e. byte-at bareWord k 7 e (omega arith) ∙ bare-byte (bareWord k) (s .small k e);
       held = held-top;
       unheld = λ k e out.
-          top-tag k e ∙ entry-tag k
-          ∙ tag-unheld (globalsIn f m) choices p (loadsEnd f (m .headers)) (s .rising) fits bias n (s .planed) (sourceAt f m bias n k) out;
+          top-tag k e
+          ∙ tag-unheld (globalsIn f m) choices p (loadsEnd f (m .headers)) (s .rising) fits bias n (s .planed) (sourceAt f m bias k) out;
       weak = λ k e q. top-tag k e ∙ rw q;
     }
 
-    matching : (k j : ℕ) → Relocates f m k → j < length (globalsIn f m) → Holds bias (globalAt (globalsIn f m) j) (sourceAt f m bias n k)
+    matching : (k j : ℕ) → Relocates f m k → j < length (globalsIn f m) → Holds bias (globalAt (globalsIn f m) j) (sourceAt f m bias k)
         → Matches f bias n p m (loaded f m bias n p choices) k j
     matching k j e l h =
         let t = held-top k j e l h in
@@ -173,30 +170,25 @@ module _ (f : List ℕ) (bias n p : ℕ) (m : Module) where
     }
 
     rechoosing : Passes f bias n p choices m → (choices′ : List ℕ) → Rechosen f p m (loaded f m bias n p choices) (loadOf f bias n p choices′)
-    rechoosing c choices′ = go (choicesCheck (globalsIn f m) choices′) refl
+    rechoosing c choices′ = go (choicesFor (globalsIn f m) choices′) refl
       where
-        go : (o : Outcome (Unit {0})) → choicesCheck (globalsIn f m) choices′ ≡ o
+        go : (o : Check) → choicesFor (globalsIn f m) choices′ ≡ o
             → Rechosen f p m (loaded f m bias n p choices) (loadOf f bias n p choices′)
         go (good u) e =
             taken-again (loaded f m bias n p choices′)
-            (passes-taken f bias n p choices′ m (record {
-              reads = c .reads;
-              relocates = c .relocates;
-              memory-fits = c .memory-fits;
-              plane-fits = c .plane-fits;
-              addresses = c .addresses;
-              chosen = e;
-            }))
+            (passes-taken f bias n p choices′ m
+            (record { reads = c .reads; relocates = c .relocates; lends = c .lends; addresses = c .addresses; chosen = e }))
             (alike choices′)
         go (bad r) e =
-            refused-again r (choices-refused f bias n p choices′ m (c .reads) (c .relocates) (c .memory-fits) (c .plane-fits) (c .addresses) r e)
+            refused-again r
+            (load-refused f bias n p choices′ m r (c .reads) (rw (c .relocates, c .lends, c .addresses, e)))
             (choices-number (globalsIn f m) choices′ r e)
 
   pub tags : (choices : List ℕ) → Passes f bias n p choices m → Tags f bias n p choices m (loaded f m bias n p choices)
   tags choices c =
       let s = passes-stands f bias n p choices m c in
       record {
-        against-plain = record { plain = plainMemory; takes = plain-takes choices c s; agrees = agrees choices s };
+        against-plain = record { plain = bareMemory; takes = plain-takes choices c s; agrees = agrees choices s };
         matches = matching choices s;
         rechosen = rechoosing choices s c;
       }

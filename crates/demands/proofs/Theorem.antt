@@ -4,7 +4,7 @@ use Prim.Native.Nat.{ℕ}
 use mathlib.Core.Path.{_≡_, sym, subst}
 use mathlib.Core.List.{List}
 use Rattle.rules.specs.Outcome.{good}
-use Rattle.rules.specs.Examine.{moduleOf}
+use Rattle.rules.specs.Reader.{moduleOf}
 use Rattle.rules.specs.Load.{Loaded, loadOf, loaded}
 use Rattle.rules.specs.declared.Module.{Module}
 use Rattle.laws.proofs.Checks.{either}

@@ -58,9 +58,9 @@ pub fn facts_of(f: &[u8], m: Module, words: u32) -> Facts
     let d = m.dynamic;
     let globals = m.globals;
     Facts {
-        mode: mode_of(dynamic::entry_of(f, d, MEMTAG_MODE)),
-        heap: switch_of(dynamic::entry_of(f, d, MEMTAG_HEAP)),
-        stack: switch_of(dynamic::entry_of(f, d, MEMTAG_STACK)),
+        mode: mode_of(entries::entry_of(f, d, MEMTAG_MODE)),
+        heap: switch_of(entries::entry_of(f, d, MEMTAG_HEAP)),
+        stack: switch_of(entries::entry_of(f, d, MEMTAG_STACK)),
         globals: globals,
         words: words,
     }
@@ -71,7 +71,7 @@ pub fn symbols_of(f: &[u8], m: Module) -> Entry
     ensures { λ v. ⌜ v ≡ entryOf (now (f .entry)) (m .dynamic) 6 ⌝ }
 {
     let d = m.dynamic;
-    dynamic::entry_of(f, d, DT_SYMTAB)
+    entries::entry_of(f, d, DT_SYMTAB)
 }
 
 // Checks 10 and 11 of a module that was read, and what the walk finds besides by a bias.

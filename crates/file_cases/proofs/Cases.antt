@@ -12,8 +12,9 @@ use Rattle.rules.specs.Dynamic.{isRow, rowOf, hasTagAt, tagBefore, badEntry, ha
 use Rattle.rules.specs.Tables.{tableBacking, relocationsOf, descriptorsOf}
 use Rattle.rules.specs.Descriptors.{ulebIn, globalAfter, second, descriptor, stepAt, globalsFrom, globalsOf}
 use Rattle.rules.specs.Relocations.{symbolBacking, symbolOf, targetOf, namedTarget, target, hasPlace, taken, placeFits, goodPlace}
-use Rattle.rules.specs.Relocations.{badRelocation, firstBad, relocationsIn, relocationsCheck, wordsOf}
-use Rattle.rules.specs.Examine.{moduleOf, factsOf, examinedOf}
+use Rattle.rules.specs.Relocations.{badRelocation, firstBad, relocationsCheck, wordsOf}
+use Rattle.rules.specs.Reader.{moduleOf}
+use Rattle.rules.specs.Examine.{factsOf, examinedOf}
 use Rattle.file_cases.specs.Cases.{FileCasesHold}
 
 pub file-cases-hold : FileCasesHold
@@ -21,7 +22,7 @@ unfolding le first countBelow over put sizeCheck wrongByte identificationCheck g
     headerAt powerBelow aligned goodLoad endBefore badLoad loadsCheck covers backs backsAt backer backingOf holds holdsAt inMemory
     isDynamicAt dynamicFrom isNullAt nullEntry goodSize dynamicAt dynamicOf isRow rowOf hasTagAt tagBefore badEntry hasTag partnerless
     entriesCheck entryOf tableBacking relocationsOf descriptorsOf ulebIn globalAfter second descriptor stepAt globalsFrom globalsOf moduleOf
-    symbolBacking symbolOf targetOf namedTarget target hasPlace taken placeFits goodPlace badRelocation firstBad relocationsIn
+    symbolBacking symbolOf targetOf namedTarget target hasPlace taken placeFits goodPlace badRelocation firstBad
     relocationsCheck wordsOf factsOf examinedOf
 file-cases-hold = record {
   read = refl;

@@ -5,8 +5,10 @@ use mathlib.Core.Path.{_≡_}
 use mathlib.Core.List.{List, [], _∷_, map}
 use lib.ListN.{take}
 use Rattle.rules.specs.Outcome.{good, refuse}
-use Rattle.rules.specs.Examine.{moduleOf, examinedOf}
+use Rattle.rules.specs.Reader.{moduleOf}
+use Rattle.rules.specs.Examine.{examinedOf}
 use Rattle.rules.specs.declared.Module.{Module}
+use Rattle.rules.specs.declared.Entry.the-variants.{Value}
 use Rattle.rules.specs.declared.Facts.{Facts}
 use Rattle.rules.specs.declared.Mode.the-variants as mode
 use Rattle.rules.specs.declared.Switch.the-variants as switch
@@ -137,6 +139,7 @@ abbrev sampleModule : Module
 sampleModule = record {
   headers = record { table = 64; count = 3 };
   dynamic = record { at = 232; entries = 7 };
+  symbols = Value 408;
   relocations = record { at = 480; entries = 4 };
   descriptors = record { at = 576; bytes = 4 };
   globals = 3;

@@ -62,7 +62,7 @@ sample = joined (front ∷ bytesOf 8 (minus 16) ∷ bytesOf 8 0 ∷ bytesOf 8 0 
 
 -- ---- changed copies
 
--- a file with a number of so many bytes put at a place
+-- a file with a number of so many bytes put at a position
 abbrev pub with : List ℕ → ℕ → ℕ → ℕ → List ℕ
 with file at bytes value = put file at (bytesOf bytes value)
 

@@ -3,7 +3,8 @@ ghost use mathlib.Core.Path.{_≡_};
 ghost use mathlib.Core.Bool.{false, cond, not, _&&_};
 ghost use Prim.Native.Nat.{_+_, _<_};
 ghost use lib.ListN.{getD};
-ghost use Rattle.rules.specs.Headers.{sizeCheck, identification, wrongByte, identificationCheck, goodHeader, headerCheck, headersOf};
+ghost use Rattle.rules.specs.Headers.{sizeCheck, identification, wrongByte, identificationCheck, goodHeader, headerCheck, headerChecks, headersOf};
+ghost use Rattle.rules.specs.Checks.{runs};
 ghost use Rattle.rules.specs.Segments.{isLoad, powerBelow, aligned, goodLoad, loadsCheck};
 ghost use Rattle.rules.specs.Answers.{ofChecked, ofHeaders};
 use rules::Checked;
@@ -30,23 +31,19 @@ fn identification_at(i: usize) -> u8
 }
 
 // Check 1: the file's length.
-pub fn check_size(f: &[u8]) -> Checked
+fn check_size(f: &[u8]) -> Checked
     ensures { λ r. ⌜ ofChecked r ≡ sizeCheck (now (f .entry)) ⌝ }
 {
     let length = f.len() as u64;
-    if length < FILE_LEAST {
-        return Checked::Refused(Refusal {
-            number: 1,
-            position: 0,
-        });
+    if FILE_LEAST <= length {
+        if length <= FILE_LIMIT {
+            return Checked::Passed;
+        }
     }
-    if FILE_LIMIT < length {
-        return Checked::Refused(Refusal {
-            number: 1,
-            position: 0,
-        });
-    }
-    Checked::Passed
+    Checked::Refused(Refusal {
+        number: 1,
+        position: 0,
+    })
 }
 
 // Check 2, of one byte.
@@ -58,7 +55,7 @@ fn is_wrong_at(f: &[u8], i: usize) -> bool
 }
 
 // Check 2: the identification, refused at the first wrong byte.
-pub fn check_identification(f: &[u8]) -> Checked
+fn check_identification(f: &[u8]) -> Checked
     ensures { λ r. ⌜ ofChecked r ≡ identificationCheck (now (f .entry)) ⌝ }
 {
     for i in 0..7 {
@@ -106,7 +103,7 @@ fn is_good_header(
 }
 
 // Check 3: the header.
-pub fn check_header(f: &[u8]) -> Checked
+fn check_header(f: &[u8]) -> Checked
     ensures { λ r. ⌜ ofChecked r ≡ headerCheck (now (f .entry)) ⌝ }
 {
     let fine = is_good_header(
@@ -127,27 +124,28 @@ pub fn check_header(f: &[u8]) -> Checked
     })
 }
 
+// Checks 1 to 3 in their order.
+fn check_file(f: &[u8]) -> Checked
+    ensures { λ r. ⌜ ofChecked r ≡ runs (headerChecks (now (f .entry))) ⌝ }
+{
+    let size = check_size(f);
+    let Checked::Passed = size else {
+        return size;
+    };
+    let identified = check_identification(f);
+    let Checked::Passed = identified else {
+        return identified;
+    };
+    check_header(f)
+}
+
 // Checks 1 to 3, and where the program headers are.
 pub fn read_headers(f: &[u8]) -> HeadersAnswer
     ensures { λ r. ⌜ ofHeaders r ≡ headersOf (now (f .entry)) ⌝ }
 {
-    let size = check_size(f);
-    let Checked::Passed = size else {
-        let Checked::Refused(r) = size else {
-            return HeadersAnswer::Refused(NEVER);
-        };
-        return HeadersAnswer::Refused(r);
-    };
-    let identified = check_identification(f);
-    let Checked::Passed = identified else {
-        let Checked::Refused(r) = identified else {
-            return HeadersAnswer::Refused(NEVER);
-        };
-        return HeadersAnswer::Refused(r);
-    };
-    let header = check_header(f);
-    let Checked::Passed = header else {
-        let Checked::Refused(r) = header else {
+    let file = check_file(f);
+    let Checked::Passed = file else {
+        let Checked::Refused(r) = file else {
             return HeadersAnswer::Refused(NEVER);
         };
         return HeadersAnswer::Refused(r);
@@ -159,7 +157,7 @@ pub fn read_headers(f: &[u8]) -> HeadersAnswer
 }
 
 // A power of two below 2^64.
-pub fn is_power(a: u64) -> bool
+fn is_power(a: u64) -> bool
     ensures { λ r. ⌜ r ≡ powerBelow 64 a ⌝ }
 {
     let mut p: u64 = 9223372036854775808;

@@ -10,11 +10,18 @@ use Rattle.rules.specs.Segments.{covers, backs, backsAt, backer, backingOf, hol
 use Rattle.rules.specs.Dynamic.{isDynamicAt, dynamicFrom, isNullAt, nullEntry, goodSize, dynamicAt, dynamicOf}
 use Rattle.rules.specs.Dynamic.{isRow, rowOf, hasTagAt, tagBefore, badEntry, hasTag, partnerless, entriesCheck, entryOf}
 use Rattle.rules.specs.Tables.{tableBacking, relocationsOf, descriptorsOf}
-use Rattle.rules.specs.Descriptors.{ulebIn, placed, second, descriptor, stepAt, globalsFrom, globalsOf}
+use Rattle.rules.specs.Descriptors.{ulebIn, globalAfter, second, descriptor, stepAt, globalsFrom, globalsOf}
 use Rattle.rules.specs.Relocations.{symbolBacking, symbolOf, targetOf, namedTarget, target, hasPlace, taken, placeFits, goodPlace}
-use Rattle.rules.specs.Relocations.{badRelocation, firstBad, relocationsIn, relocationsCheck, wordsOf}
-use Rattle.rules.specs.Examine.{moduleOf, factsOf}
-use Rattle.rules.specs.Load.{memoryFits, planeFits, loadsOver, badAddress, addressesCheck, badChoice, choicesCheck, tagged, writes, loadOf}
+use Rattle.rules.specs.Relocations.{badRelocation, firstBad, relocationsCheck, wordsOf}
+use Rattle.rules.specs.Reader.{moduleOf}
+use Rattle.rules.specs.Examine.{factsOf}
+use Rattle.rules.specs.Lending.{memoryFits, planeFits, lendingFits, lendingCheck}
+use Rattle.rules.specs.Addresses.{badAddress, addressesCheck}
+use Rattle.rules.specs.Choices.{badChoice, choicesFor}
+use Rattle.rules.specs.Image.{loadsOver, loadedIn}
+use Rattle.rules.specs.Plane.{tagged}
+use Rattle.rules.specs.Words.{writes}
+use Rattle.rules.specs.Load.{loadOf}
 use Rattle.demands.specs.Plain.{segmentsOf, badBare, bareWords, plainOf}
 use Rattle.load_cases.specs.Cases.{LoadCasesHold}
 
@@ -22,9 +29,9 @@ pub load-cases-hold : LoadCasesHold
 unfolding le first countBelow over put putWord sizeCheck wrongByte identificationCheck goodHeader headerCheck headersOf
     headerAt powerBelow aligned goodLoad endBefore badLoad loadsCheck covers backs backsAt backer backingOf holds holdsAt inMemory
     isDynamicAt dynamicFrom isNullAt nullEntry goodSize dynamicAt dynamicOf isRow rowOf hasTagAt tagBefore badEntry hasTag partnerless
-    entriesCheck entryOf tableBacking relocationsOf descriptorsOf ulebIn placed second descriptor stepAt globalsFrom globalsOf
-    symbolBacking symbolOf targetOf namedTarget target hasPlace taken placeFits goodPlace badRelocation firstBad relocationsIn
-    relocationsCheck wordsOf moduleOf factsOf memoryFits planeFits loadsOver badAddress addressesCheck badChoice choicesCheck
+    entriesCheck entryOf tableBacking relocationsOf descriptorsOf ulebIn globalAfter second descriptor stepAt globalsFrom globalsOf
+    symbolBacking symbolOf targetOf namedTarget target hasPlace taken placeFits goodPlace badRelocation firstBad
+    relocationsCheck wordsOf moduleOf factsOf memoryFits planeFits lendingFits lendingCheck loadsOver loadedIn badAddress addressesCheck badChoice choicesFor
     tagged writes loadOf segmentsOf badBare bareWords plainOf
 load-cases-hold = record {
   load = refl;

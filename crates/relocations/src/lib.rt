@@ -37,7 +37,7 @@ fn place_fits(f: &[u8], h: Headers, p: u64) -> bool
     if p % 8 != 0 {
         return false;
     }
-    headers::in_memory(f, h, true, p, 8)
+    segments::in_memory(f, h, true, p, 8)
 }
 
 // Checks 10 and 11 of one entry, but for its place's earlier entries: 0, 10 or 11.

@@ -1,4 +1,4 @@
--- The tests in their order; a good size is at most 4,096, so the count of entries fits.
+-- The tests in their order; a good size is not above the limit, so the count of entries fits.
 -- Assumes nothing.
 use borrow.Author.Tests.{lt-ltb, le-ltb}
 use Rattle.dynamic.proofs.Laws.{good-size}
@@ -13,19 +13,25 @@ unfolding dynamicAt
 returns c = rw (c .enum-told .given .1)
 
 cast-n : tie.Need-cast-n
-cast-n c = let h = good-size (c .before .before .before .before .before .before .args .size) (rw (← c .before .is-good-size .ensures) (c .if1 .taken)) in omega arith
+cast-n c =
+    let h = good-size (c .before .before .before .before .before .before .args .size) (rw (← c .before .is-good-size .ensures) (c .if1 .taken)) in
+    omega arith
 
 returns-2 : tie.Need-returns-2
 unfolding dynamicAt
-returns-2 c = rw (c .before .before .before .before .before .place .given .1, ← c .before .before .before .is-good-size .ensures, c .before .before .if1 .taken, ← c .before .null-entry .ensures, lt-ltb _ _ (c .if2 .taken))
+returns-2 c =
+    rw (c .before .before .before .before .before .backing .given .1, ← c .before .before .before .is-good-size .ensures,
+    c .before .before .if1 .taken, ← c .before .null-entry .ensures, lt-ltb _ _ (c .if2 .taken))
 
 returns-3 : tie.Need-returns-3
 unfolding dynamicAt
-returns-3 c = rw (c .before .before .before .before .before .place .given .1, ← c .before .before .before .is-good-size .ensures, c .before .before .if1 .taken, ← c .before .null-entry .ensures, le-ltb _ _ (c .if2 .left))
+returns-3 c =
+    rw (c .before .before .before .before .before .backing .given .1, ← c .before .before .before .is-good-size .ensures,
+    c .before .before .if1 .taken, ← c .before .null-entry .ensures, le-ltb _ _ (c .if2 .left))
 
 returns-4 : tie.Need-returns-4
 unfolding dynamicAt
-returns-4 c = rw (c .before .before .before .place .given .1, ← c .before .is-good-size .ensures, c .if1 .left)
+returns-4 c = rw (c .before .before .before .backing .given .1, ← c .before .is-good-size .ensures, c .if1 .left)
 
 pub dynamic-at-spec : {M : Type 1} → statement M
 dynamic-at-spec =

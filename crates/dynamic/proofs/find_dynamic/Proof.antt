@@ -11,11 +11,19 @@ returns : tie.Need-returns
 returns c = let a = c .before .before .before .args in sym (dynamic-none (a .f .now) (a .h) _ (c .before .dynamic-from .ensures) (c .if1 .taken))
 
 returns-2 : tie.Need-returns-2
-returns-2 c = let a = c .before .before .before .before .before .args in sym (dynamic-more (a .f .now) (a .h) _ (c .before .before .before .dynamic-from .ensures) _ (omega arith) (c .before .dynamic-from2 .ensures) (c .if2 .taken))
+returns-2 c =
+    let a = c .before .before .before .before .before .args in
+    sym (dynamic-more (a .f .now) (a .h) _ (c .before .before .before .dynamic-from .ensures) _ (omega arith) (c .before .dynamic-from2 .ensures)
+    (c .if2 .taken))
 
 returns-3 : tie.Need-returns-3
-returns-3 c = let a = c .before .before .before .before .before .before .before .before .args in rw (dynamic-one (a .f .now) (a .h) _ (c .before .before .before .before .before .before .dynamic-from .ensures) _ (omega arith) (c .before .before .before .before .dynamic-from2 .ensures) (c .before .before .before .if2 .left), ← c .before .before .header-at .ensures, ← c .before .backing-of .ensures) (c .dynamic-at .ensures)
+returns-3 c =
+    let a = c .before .before .before .before .before .before .before .before .args in
+    rw (dynamic-one (a .f .now) (a .h) _ (c .before .before .before .before .before .before .dynamic-from .ensures) _ (omega arith)
+    (c .before .before .before .before .dynamic-from2 .ensures) (c .before .before .before .if2 .left), ← c .before .before .header-at .ensures,
+    ← c .before .backing-of .ensures) (c .dynamic-at .ensures)
 
 pub find-dynamic-spec : {M : Type 1} → statement M
 find-dynamic-spec =
-    tie.close (tie.spec (search needs) (search needs) returns (search needs) (search needs) (search needs) returns-2 (search needs) (search needs) (search needs) returns-3)
+    tie.close (tie.spec (search needs) (search needs) returns (search needs) (search needs) (search needs) returns-2 (search needs) (search needs)
+    (search needs) returns-3)

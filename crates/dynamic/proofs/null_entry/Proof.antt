@@ -22,14 +22,26 @@ loop-holds c = (omega arith, rw sub-zero)
 
 returns : tie.Need-returns Inv-loop μ-loop
 unfolding nullEntry
-returns c = let l = c .before .before .before .loop in let a = c .before .before .before .before .before .args in let t = isNullAt (a .f .now) (a .at) in sym (l .inv .1 ∙ first-hit t (l .i) (a .n) (omega arith) (rw (← c .before .is-null-at .ensures) (c .if1 .taken)))
+returns c =
+    let l = c .before .before .before .loop in
+    let a = c .before .before .before .before .before .args in
+    let t = isNullAt (a .f .now) (a .at) in
+    sym (l .inv .1 ∙ first-hit t (l .i) (a .n) (omega arith) (rw (← c .before .is-null-at .ensures) (c .if1 .taken)))
 
 loop-again : tie.Need-loop-again Inv-loop μ-loop
-loop-again c = let l = c .before .before .before .loop in let a = c .before .before .before .before .before .args in let t = isNullAt (a .f .now) (a .at) in (omega arith, l .inv .1 ∙ first-step t (l .i) (a .n) (omega arith) (rw (← c .before .is-null-at .ensures) (c .if1 .left)))
+loop-again c =
+    let l = c .before .before .before .loop in
+    let a = c .before .before .before .before .before .args in
+    let t = isNullAt (a .f .now) (a .at) in
+    (omega arith, l .inv .1 ∙ first-step t (l .i) (a .n) (omega arith) (rw (← c .before .is-null-at .ensures) (c .if1 .left)))
 
 returns-2 : tie.Need-returns-2 Inv-loop μ-loop
 unfolding nullEntry
-returns-2 c = let l = c .before .loop in let a = c .before .before .before .args in let t = isNullAt (a .f .now) (a .at) in sym (l .inv .1 ∙ first-none t (l .i) (a .n) (omega arith) (omega arith))
+returns-2 c =
+    let l = c .before .loop in
+    let a = c .before .before .before .args in
+    let t = isNullAt (a .f .now) (a .at) in
+    sym (l .inv .1 ∙ first-none t (l .i) (a .n) (omega arith) (omega arith))
 
 pub null-entry-spec : {M : Type 1} → statement M
 null-entry-spec =

@@ -1,12 +1,5 @@
 -- The header's fields are read and judged.
 -- Assumes nothing.
-use Rattle.rules.specs.Headers.{goodHeader}
-use Rattle.rules.specs.Bytes.{le}
-use lib.ListN.{length}
-use mathlib.Core.Path.{_≡_}
-use mathlib.Core.Bool.{true, false}
-use mathlib.Core.Path.{sym}
-use Rattle.rules.proofs.OutcomeLaws.{require-true, require-false}
 use Rattle.rules.specs.Headers.{headerCheck}
 use borrow.Author.Needs.{needs}
 use Rattle.headers.proofs.check_header.Statement.{statement}
@@ -15,17 +8,30 @@ use Rattle.headers.proofs.check_header.Tie as tie
 returns : tie.Need-returns
 unfolding headerCheck
 returns c =
-    let f = c .before .before .before .before .before .before .before .before .before .args .f .now in
-    let e : goodHeader (length f) (le 2 f 16) (le 2 f 18) (le 4 f 20) (le 2 f 54) (le 2 f 56) (le 8 f 32) ≡ true = cc in
-    sym (require-true _ 3 0 e)
+    let judged = c .before in
+    let table = judged .before in
+    let count = table .before in
+    let size = count .before in
+    let version = size .before in
+    let machine = version .before in
+    let kind = machine .before in
+    rw (← kind .read16 .ensures, ← machine .read162 .ensures, ← version .read32 .ensures, ← size .read163 .ensures,
+    ← count .read164 .ensures, ← table .read64 .ensures, ← judged .is-good-header .ensures, c .if1 .taken)
 
 returns-2 : tie.Need-returns-2
 unfolding headerCheck
 returns-2 c =
-    let f = c .before .before .before .before .before .before .before .before .before .args .f .now in
-    let e : goodHeader (length f) (le 2 f 16) (le 2 f 18) (le 4 f 20) (le 2 f 54) (le 2 f 56) (le 8 f 32) ≡ false = cc in
-    sym (require-false _ 3 0 e)
+    let judged = c .before in
+    let table = judged .before in
+    let count = table .before in
+    let size = count .before in
+    let version = size .before in
+    let machine = version .before in
+    let kind = machine .before in
+    rw (← kind .read16 .ensures, ← machine .read162 .ensures, ← version .read32 .ensures, ← size .read163 .ensures,
+    ← count .read164 .ensures, ← table .read64 .ensures, ← judged .is-good-header .ensures, c .if1 .left)
 
 pub check-header-spec : {M : Type 1} → statement M
 check-header-spec =
-    tie.close (tie.spec (search needs) (search needs) (search needs) (search needs) (search needs) (search needs) (search needs) (search needs) returns returns-2)
+    tie.close (tie.spec (search needs) (search needs) (search needs) (search needs) (search needs) (search needs) (search needs) (search needs)
+    returns returns-2)
