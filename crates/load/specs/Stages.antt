@@ -13,7 +13,7 @@ use Rattle.rules.specs.Choices.{choicesCheck}
 use Rattle.rules.specs.Image.{imageOf}
 use Rattle.rules.specs.declared.Module.{Module}
 use Rattle.placing.specs.Words.{relocated}
-use Rattle.tags.specs.Tagged.{taggedFrom}
+use Rattle.tags.specs.Walks.{taggedFrom}
 
 -- checks 12 to 14, where the first address out of range is known
 unfoldable pub lentIn : List ℕ → Module → ℕ → ℕ → ℕ → ℕ → List ℕ → Check

@@ -1,91 +1,87 @@
--- Check 14 and the plane, one global at a time.
+-- Where the globals are known, the walks are check 14 and the rules' plane.
 -- Assumes nothing.
-use Prim.Native.Nat.{ℕ, _+_, _-_, _/_, _<_}
-use mathlib.Core.Path.{_≡_, refl, sym, _∙_}
+use Prim.Native.Nat.{ℕ, zero, suc, _+_, _-_, _<_}
+use mathlib.Core.Path.{_≡_, refl, sym, ap, _∙_}
+use mathlib.Core.Bool.{Bool, true, false, cond}
 use mathlib.Core.List.{List}
-use native.Mathlib.Numerals.{add-one}
+use native.Mathlib.Numerals.{add-one, sub-one}
 use native.Mathlib.Omega.{arith}
 use lib.ListN.{length, getD, replicate}
-use Rattle.rules.specs.Outcome.{Outcome, good, bad}
-use Rattle.rules.specs.Limits.{granule}
-use Rattle.rules.specs.First.{first}
-use Rattle.rules.specs.Memory.{put}
-use Rattle.rules.specs.Descriptors.{global, stepAt, tableStart, descriptorTable, globalsOf}
-use Rattle.rules.specs.Load.{listOf, globalAt, badChoice, choicesCheck, tagged, planeOf}
-use Rattle.rules.specs.Answers.{ofStep, countOf}
+use borrow.Author.Tests.{eq-eqb, ne-eqb}
+use Rattle.rules.specs.Outcome.{Outcome, good, bad, refuse}
+use Rattle.rules.specs.Checks.{Check}
+use Rattle.rules.specs.First.{first, faultAt}
+use Rattle.rules.specs.Descriptors.{stepAt, tableStart, descriptorTable, globalsOf}
+use Rattle.rules.specs.Choices.{listOf, globalAt, endOf, badChoice, choicesFor}
+use Rattle.rules.specs.Plane.{putTag, tagged, planeOf}
+use Rattle.rules.specs.Answers.{countOf}
 use Rattle.rules.specs.declared.Headers.{Headers}
 use Rattle.rules.specs.declared.Descriptors.{Descriptors}
 use Rattle.rules.specs.declared.Global.{Global}
 use Rattle.rules.specs.declared.Cursor.{Cursor}
-use Rattle.rules.specs.declared.Step.{Step}
-use Rattle.rules.specs.declared.Step.the-variants as step
-use Rattle.laws.proofs.Globals.{Walk, walk-start, walk-step, walk-global}
-use Rattle.tags.specs.Choices.{choicesFrom}
-
--- ---- the walk over a table's globals
-
--- of every list of n globals that the table s may list
-abbrev pub Listed : List ℕ → List ℕ → ℕ → (Headers → List Global → Type 0) → Type 0
-Listed f s n P = (h : Headers) (gs : List Global) → Walk f h s gs 0 tableStart → length gs ≡ n → P h gs
+use Rattle.laws.proofs.Globals.{Walk, walk-start, walk-step}
+use Rattle.tags.specs.Walks.{badAfter, choicesFrom, taggedFrom}
 
 -- globals that were counted are there, as many as the count
 pub counted : (x : Outcome (List Global)) (n : ℕ) → countOf x ≡ good n → (x ≡ good (listOf x)) × (length (listOf x) ≡ n)
 counted (good gs) n e = (refl, cc)
 counted (bad r) n e = absurd (let z : _≡_ {A = ℕ} 0 1 = cc in omega arith)
 
-pub listed-here : {P : Headers → List Global → Type 0} (f : List ℕ) (h : Headers) (t : Descriptors) (s : List ℕ) (n : ℕ) → Listed f s n P
-    → countOf (globalsOf f h t) ≡ good n → s ≡ descriptorTable f t
-    → (length (listOf (globalsOf f h t)) ≡ n) × P h (listOf (globalsOf f h t))
-listed-here f h t s n l e d =
-    let gs = listOf (globalsOf f h t) in
-    let k = counted (globalsOf f h t) n e in
-    (k .1, l h gs (rw d (walk-start f h t gs (k .0))) (k .1))
-
--- a step that reads a global answers one
-pub is-global : (st : Step) (g : Global) (next : Cursor) → ofStep st ≡ good (global g next) → st ≡ step.Global g next
-is-global step.Finished g next e = absurd (let z : _≡_ {A = ℕ} 0 1 = cc in omega arith)
-is-global (step.Global g₁ next₁) g next e = let a : g₁ ≡ g = cc in let b : next₁ ≡ next = cc in rw (a, b)
-is-global (step.Refused r) g next e = absurd (let z : _≡_ {A = ℕ} 0 1 = cc in omega arith)
-
-module _ {f : List ℕ} {h : Headers} {s : List ℕ} {gs : List Global} {i : ℕ} {c : Cursor} {st : Step} where
-  -- below the number of globals each step reads one
-  pub reads-global : Walk f h s gs i c → i < length gs → ofStep st ≡ stepAt i s c → (next : Cursor) × (st ≡ step.Global (globalAt gs i) next)
-  reads-global w l e = let t = walk-step f h s gs i c w l in (t .next, is-global st (globalAt gs i) (t .next) (e ∙ t .here))
-
-  -- and it is the one of the index
-  pub reads-this : {g : Global} {next : Cursor} → Walk f h s gs i c → i < length gs → ofStep st ≡ stepAt i s c → st ≡ step.Global g next
-      → (g ≡ globalAt gs i) × Walk f h s gs (i + 1) next
-  reads-this w l e q = walk-global f h s gs i c _ _ w l (sym e ∙ rw q)
-
 -- ---- check 14
 
--- of the globals that were counted and the first whose choice is bad
-pub choices-from : (gs : List Global) (choices : List ℕ) (globals fault : ℕ) → length gs ≡ globals
-    → fault ≡ first (badChoice gs choices) 0 globals → choicesFrom globals fault (length choices) ≡ choicesCheck gs choices
-unfolding choicesFrom choicesCheck
-choices-from gs choices globals fault n e = rw (n, e)
+-- the test on plain numbers is the rule's
+bad-after : (gs : List Global) (choices : List ℕ) (i end last : ℕ) → (0 < i → end ≡ endOf (globalAt gs (i - 1)))
+    → (0 < i → last ≡ getD choices (i - 1) 0) → badAfter i end last (globalAt gs i .start) (getD choices i 0) ≡ badChoice gs choices i
+unfolding badAfter badChoice
+bad-after gs choices zero end last h k = refl
+bad-after gs choices (suc i) end last h k =
+    let e = h (omega arith) in
+    let l = k (omega arith) in
+    rw (e, l, sub-one, ne-eqb (suc i) 0 (λ q. omega arith))
 
--- ---- the plane
+module _ (f : List ℕ) (h : Headers) (s : List ℕ) (gs : List Global) (choices : List ℕ) where
+  -- the n choices from the index i on
+  choices-walk : (n i last : ℕ) (c : Cursor) → Walk f h s gs i c → i + n ≡ length gs → (0 < i → last ≡ getD choices (i - 1) 0)
+      → choicesFrom s choices n i last c ≡ faultAt 14 (λ j. j) (i + n) (first (badChoice gs choices) i n)
+  unfolding choicesFrom first
+  choices-walk zero i last c w l k = rw (eq-eqb i (i + 0) (omega arith))
+  choices-walk (suc n) i last c w l k =
+      let t = walk-step f h s gs i c w (omega arith) in
+      let b = bad-after gs choices i (c .end) last (w .last) k in
+      let z : i + 1 - 1 ≡ i = omega arith in
+      rw (t .here, b) (go (badChoice gs choices i) _ (choices-walk n (i + 1) (getD choices i 0) (t .next) (t .walk) (omega arith) (λ q. rw z)))
+    where
+      go : (b : Bool) (rest : Check) → rest ≡ faultAt 14 (λ j. j) (i + 1 + n) (first (badChoice gs choices) (i + 1) n)
+          → cond b (refuse 14 i) rest ≡ faultAt 14 (λ j. j) (i + suc n) (cond b i (first (badChoice gs choices) (i + 1) n))
+      go true rest e = rw (ne-eqb i (i + suc n) (λ q. omega arith))
+      go false rest e = let z : i + 1 + n ≡ i + suc n = omega arith in rw z at e
 
--- what the tagging keeps at the index i
-pub record Tags (f : List ℕ) (h : Headers) (s : List ℕ) (gs : List Global) (choices clear : List ℕ) (i : ℕ) (c : Cursor) (plane : List ℕ) : Type 0 where
-  pub walk : Walk f h s gs i c
-  pub done : plane ≡ tagged gs choices clear i
+  -- the plane after the n globals from the index i on
+  tagged-walk : (clear plane : List ℕ) (n i : ℕ) (c : Cursor) → Walk f h s gs i c → i + n ≡ length gs → plane ≡ tagged gs choices clear i
+      → taggedFrom s choices plane n i c ≡ tagged gs choices clear (length gs)
+  unfolding taggedFrom tagged
+  tagged-walk clear plane zero i c w l d = let e : length gs ≡ i = omega arith in rw e d
+  tagged-walk clear plane (suc n) i c w l d =
+      let t = walk-step f h s gs i c w (omega arith) in
+      rw (t .here)
+      (tagged-walk clear (putTag plane (globalAt gs i) (getD choices i 0)) n (i + 1) (t .next) (t .walk) (omega arith) (rw (add-one, d)))
 
-module _ {f : List ℕ} {h : Headers} {s : List ℕ} {gs : List Global} {choices clear : List ℕ} where
-  pub tags-start : Walk f h s gs 0 tableStart → Tags f h s gs choices clear 0 tableStart clear
+-- ---- of the globals that a table lists
+
+module _ (f : List ℕ) (h : Headers) (t : Descriptors) (gs : List Global) (e : globalsOf f h t ≡ good gs) (choices : List ℕ) (n : ℕ) (l : length gs ≡ n)
+    where
+  pub choices-wrong : (length choices ≡ n → ⊥) → choicesFor gs choices ≡ refuse 14 n
+  unfolding choicesFor
+  choices-wrong d = rw (l, ne-eqb (length choices) n d)
+
+  pub choices-each : length choices ≡ n → choicesFrom (descriptorTable f t) choices n 0 0 tableStart ≡ choicesFor gs choices
+  unfolding choicesFor
+  choices-each d =
+      let z : 0 + n ≡ n = omega arith in
+      rw (l, eq-eqb (length choices) n d)
+      (rw z at (choices-walk f h (descriptorTable f t) gs choices n 0 0 tableStart (walk-start f h t gs e) (omega arith) (λ q. absurd (omega arith))))
+
+  pub plane-tagged : (size : ℕ) → taggedFrom (descriptorTable f t) choices (replicate size 0) n 0 tableStart ≡ planeOf gs choices size
   unfolding tagged
-  tags-start w = record { walk = w; done = refl }
-
-  pub tags-end : {i : ℕ} {c : Cursor} {plane : List ℕ} (n : ℕ) → Tags f h s gs choices clear i c plane → clear ≡ replicate n 0 → i ≡ length gs
-      → plane ≡ planeOf gs choices n
-  tags-end n k d e = rw (← d, ← e) (k .done)
-
-  pub tags-next : {i : ℕ} {c : Cursor} {st : Step} {g : Global} {next : Cursor} {choice : ℕ} {plane new : List ℕ}
-      → Tags f h s gs choices clear i c plane → ofStep st ≡ stepAt i s c → st ≡ step.Global g next → choice ≡ getD choices i 0
-      → new ≡ put plane (g .start / granule) (replicate (g .granules) choice) → i < length gs
-      → Tags f h s gs choices clear (i + 1) next new
-  unfolding tagged
-  tags-next k e q b p l =
-      let w = reads-this (k .walk) l e q in
-      record { walk = w .1; done = rw (add-one, ← w .0, ← b, ← k .done) p }
+  plane-tagged size =
+      tagged-walk f h (descriptorTable f t) gs choices (replicate size 0) (replicate size 0) n 0 tableStart (walk-start f h t gs e) (omega arith) refl
