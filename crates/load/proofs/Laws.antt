@@ -65,7 +65,10 @@ module _ (f : List ℕ) (m : Module) (bias n p : ℕ) (choices : List ℕ) where
       rw (k .passes, k .outside) (go (lendingCheck f m bias n p) (addressesCheck f m bias) (choicesCheck f m choices))
     where
       go : (a b c : Check) → andThen a (λ _. andThen b (λ _. c)) ≡ andThen a (λ _. andThen b (λ _. andThen c (λ _. good tt)))
-      go a b c = ?
+      go (good _) (good _) (good _) = refl
+      go (good _) (good _) (bad r) = refl
+      go (good _) (bad r) c = refl
+      go (bad r) b c = refl
 
 -- ---- the writes
 
@@ -73,7 +76,7 @@ module _ (f : List ℕ) (bias n p : ℕ) (choices : List ℕ) (m : Module) (c : 
   pub plane-written : writtenPlane f m choices p ≡ loadedPlane f m choices p
   plane-written =
       let r = module-reads f m (c .reads) in
-      plane-tagged f (m .headers) (m .descriptors) (globalsIn f m) choices (m .globals) (r .globals) (sym (r .count)) p
+      plane-tagged f (m .headers) (m .descriptors) (globalsIn f m) (r .globals) choices (m .globals) (sym (r .count)) p
 
   -- the word of an item over the image is the rules' word
   word-written : (plane : List ℕ) (k : ℕ) → wordIn f m bias plane (imageOf f (m .headers) n) k ≡ wordAt f m bias n plane k
