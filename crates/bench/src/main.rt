@@ -1,7 +1,5 @@
 // Runs the unmarked cases of the bench sheet, and the words of the marked ones, and writes a line for each.
-ghost use mathlib.Core.Path.{_≡_};
-ghost use Prim.Native.Nat.{_+_, _*_};
-ghost use Rattle.rules.specs.Memory.{putWord};
+use bench_images::PLACE;
 use libc::STDOUT_FILENO;
 use rules::Answer;
 use rules::Cursor;
@@ -11,17 +9,6 @@ use rules::encoding::Uleb;
 
 // Bytes of an image, whose file part is its front.
 const FILE: usize = 25600;
-
-// Where the parts of an image stand, in the file and in memory.
-const HEADERS: usize = 64;
-
-const ENTRIES: usize = 256;
-
-const DESCRIPTORS: usize = 384;
-
-const PLACE: usize = 448;
-
-const RELA: usize = 512;
 
 // The file part and the memory of the sheet's image.
 const SHEET_FILE: u64 = 1024;
@@ -37,21 +24,13 @@ const LONG_MEMORY: usize = 0x9000;
 
 const LONG_PLANE: usize = 0x900;
 
-const LONG_PLACE: u64 = 25600;
+const LONG_PLACE: u32 = 25600;
 
 // The place of the entry of index 1,023.
 const LONG_LAST: usize = 33784;
 
 // The bias of the sheet.
 const BIAS: u64 = 0x40000000;
-
-// A program header's kind, and its flags in the high half: PT_LOAD, readable and writable, and PT_DYNAMIC.
-const WRITABLE_LOAD: u64 = 0x600000001;
-
-const PT_DYNAMIC: u64 = 2;
-
-// R_AARCH64_RELATIVE.
-const RELATIVE: u64 = 1027;
 
 // -1, -128 and -4,096 as eight bytes hold them.
 const MINUS_1: u64 = 0xffffffffffffffff;
@@ -64,69 +43,6 @@ const MINUS_4096: u64 = 0xfffffffffffff000;
 const LIMIT_LESS_BIAS: u64 = 0xffffc0000000;
 
 const LAST_LESS_BIAS: u64 = 0xffffbfffffff;
-
-// A dynamic entry by its index: a tag and a value.
-fn put_dynamic(f: &mut [u8], i: u8, tag: u64, value: u64)
-    ensures { λ _. ⌜ now (f .exit) ≡ putWord (putWord (now (f .entry)) (256 + 16 * i) tag) (256 + 16 * i + 8) value ⌝ }
-{
-    let at = ENTRIES + 16 * (i as usize);
-    memory::put64(f, at, tag);
-    memory::put64(f, at + 8, value);
-}
-
-// A RELATIVE relocation by its index: a place and an addend.
-fn put_relative(f: &mut [u8], i: u32, place: u64, addend: u64)
-    ensures { λ _. ⌜ now (f .exit) ≡ putWord (putWord (putWord (now (f .entry)) (512 + 24 * i) place) (512 + 24 * i + 8) 1027) (512 + 24 * i + 16) addend ⌝ }
-{
-    let at = RELA + 24 * (i as usize);
-    memory::put64(f, at, place);
-    memory::put64(f, at + 8, RELATIVE);
-    memory::put64(f, at + 16, addend);
-}
-
-// A program header by its index: its kind and flags, where it starts, its bytes in the file and in memory.
-fn put_header(f: &mut [u8], i: u8, kind: u64, start: u64, filesz: u64, memsz: u64) {
-    let at = HEADERS + 56 * (i as usize);
-    memory::put64(f, at, kind);
-    memory::put64(f, at + 8, start);
-    memory::put64(f, at + 16, start);
-    memory::put64(f, at + 32, filesz);
-    memory::put64(f, at + 40, memsz);
-}
-
-// The file header.
-fn put_file_header(f: &mut [u8]) {
-    memory::put_bytes(f, 0, b"\x7fELF\x02\x01\x01");
-    // Type 3, machine 183, version 1.
-    memory::put_bytes(f, 16, b"\x03\x00\xb7\x00\x01\x00\x00\x00");
-    memory::put64(f, 32, HEADERS as u64);
-    // Header size 56, count 2.
-    memory::put_bytes(f, 54, b"\x38\x00\x02\x00");
-}
-
-fn rela_bytes(entries: u32) -> u64
-    ensures { λ r. ⌜ r ≡ 24 * entries ⌝ }
-{
-    24 * (entries as u64)
-}
-
-// The dynamic table of an image with so many relocations.
-fn put_table(f: &mut [u8], entries: u32) {
-    put_dynamic(f, 0, 7, RELA as u64);
-    put_dynamic(f, 1, 8, rela_bytes(entries));
-    put_dynamic(f, 2, 9, 24);
-    put_dynamic(f, 3, 0x7000000d, DESCRIPTORS as u64);
-    put_dynamic(f, 4, 0x7000000f, 5);
-}
-
-// An image of the sheet's three globals, all but the relocations themselves.
-fn put_image(f: &mut [u8], filesz: u64, memsz: u64, entries: u32) {
-    put_file_header(f);
-    put_header(f, 0, WRITABLE_LOAD, 0, filesz, memsz);
-    put_header(f, 1, PT_DYNAMIC, ENTRIES as u64, 96, 96);
-    put_table(f, entries);
-    memory::put_bytes(f, DESCRIPTORS, b"\x82\x10\x10\x07\x01");
-}
 
 fn print_refusal(r: Refusal) {
     io::write_all(STDOUT_FILENO, b"refused ");
@@ -162,40 +78,53 @@ fn run_load(
     }
 }
 
-// The sheet's image with one relocation, of an addend and the place's bytes.
+// The sheet's image with one relocation, of an addend and the place's bytes, made and loaded in buffers of zeros.
+fn load_sheet(
+    f: &mut [u8],
+    memory: &mut [u8],
+    plane: &mut [u8],
+    name: &[u8],
+    bias: u64,
+    addend: u64,
+    loaded: u64,
+    choices: &[u8],
+) {
+    bench_images::put_image(f, SHEET_FILE, SHEET_MEMORY as u64, 1);
+    bench_images::put_relative(f, 0, PLACE as u64, addend);
+    memory::put64(f, PLACE, loaded);
+    io::write_all(STDOUT_FILENO, name);
+    run_load(f, bias, memory, plane, choices, PLACE);
+}
+
 fn run_sheet(name: &[u8], bias: u64, addend: u64, loaded: u64, choices: &[u8]) {
     let mut f = [0u8; FILE];
     let mut memory = [0u8; SHEET_MEMORY];
     let mut plane = [0u8; SHEET_PLANE];
-    put_image(&mut f, SHEET_FILE, SHEET_MEMORY as u64, 1);
-    put_relative(&mut f, 0, PLACE as u64, addend);
-    memory::put64(&mut f, PLACE, loaded);
-    io::write_all(STDOUT_FILENO, name);
-    run_load(&f, bias, &mut memory, &mut plane, choices, PLACE);
-}
-
-fn put_relocations(f: &mut [u8], entries: u32) {
-    for i in 0..entries {
-        put_relative(f, i, LONG_PLACE + 8 * (i as u64), 0x10c0);
-    }
+    load_sheet(
+        &mut f,
+        &mut memory,
+        &mut plane,
+        name,
+        bias,
+        addend,
+        loaded,
+        choices,
+    );
 }
 
 // The image long enough with so many relocations; the word is that of the entry of index 1,023.
+fn load_long(f: &mut [u8], memory: &mut [u8], plane: &mut [u8], name: &[u8], entries: u32) {
+    bench_images::put_image(f, LONG_FILE, LONG_MEMORY as u64, entries);
+    bench_images::put_relocations(f, entries, LONG_PLACE, 0x10c0);
+    io::write_all(STDOUT_FILENO, name);
+    run_load(f, BIAS, memory, plane, b"\x03\x09\x05", LONG_LAST);
+}
+
 fn run_long(name: &[u8], entries: u32) {
     let mut f = [0u8; FILE];
     let mut memory = [0u8; LONG_MEMORY];
     let mut plane = [0u8; LONG_PLANE];
-    put_image(&mut f, LONG_FILE, LONG_MEMORY as u64, entries);
-    put_relocations(&mut f, entries);
-    io::write_all(STDOUT_FILENO, name);
-    run_load(
-        &f,
-        BIAS,
-        &mut memory,
-        &mut plane,
-        b"\x03\x09\x05",
-        LONG_LAST,
-    );
+    load_long(&mut f, &mut memory, &mut plane, name, entries);
 }
 
 // The number at the front of a table, and the position after it.

@@ -1,4 +1,4 @@
--- A refusal's number is from 1 to 255, so the packed number can be taken apart.
+-- A refusal's number is from 1 to 255 and the counts fit seventeen bits, so the packed numbers can be taken apart.
 -- Assumes nothing.
 use Prim.Native.Nat.{ℕ, _/_, _%_, _≤_, _<_}
 use mathlib.Core.Path.{_≡_, refl, sym, subst}
@@ -10,12 +10,18 @@ use borrow.Author.Tests.{leb-true, ltb-true, eqb-true}
 use Rattle.rules.specs.Outcome.{Outcome, good, bad, refusal}
 use Rattle.rules.specs.declared.Refusal.{Refusal}
 use Rattle.rules.specs.declared.Facts.{Facts}
+use Rattle.rules.specs.declared.Mode.{Mode}
+use Rattle.rules.specs.declared.Mode.the-variants as mode
+use Rattle.rules.specs.declared.Switch.{Switch}
+use Rattle.rules.specs.declared.Switch.the-variants as switch
 use Rattle.rules.proofs.OutcomeLaws.{and-left, and-right}
 use Rattle.demands.specs.Table.{listed, loadNumbers}
 use Rattle.demands.specs.Calls.{Buffers, Call, Declined}
+use Rattle.demands.specs.Demands.{Counted}
+use Rattle.demands.proofs.Refusals.{examined-facts}
 use Rattle.demands.proofs.Calls.{calls}
-use Rattle.hagolstan.specs.Packed.{packed, packedRefusal}
-use Rattle.hagolstan.specs.Exported.{Told, ExportClaim}
+use Rattle.hagolstan.specs.Packed.{packed, packedRefusal, modeNumber, switchNumber, factsNumber}
+use Rattle.hagolstan.specs.Exported.{Told, ExportClaim, FactsTold, FactsClaim}
 
 -- every number of a list is from 1 to 255
 abbrev lowBytes : List ℕ → Bool
@@ -67,3 +73,38 @@ module _ (f : List ℕ) (bias : ℕ) (choices : List ℕ) (lent left : Buffers) 
 
 pub exported : ExportClaim
 exported f bias choices lent left number x = told f bias choices lent left (x .answer) number (x .call) (x .packs)
+
+-- ---- the facts
+
+mode-small : (m : Mode) → modeNumber m < 4
+mode-small mode.Absent = omega arith
+mode-small mode.Synchronous = omega arith
+mode-small mode.Asynchronous = omega arith
+
+switch-small : (s : Switch) → switchNumber s < 4
+switch-small switch.Absent = omega arith
+switch-small switch.Off = omega arith
+switch-small switch.On = omega arith
+
+facts-told : (a : Facts) → Counted a → FactsTold a (factsNumber a)
+facts-told a c =
+    let m = mode-small (a .mode) in
+    let h = switch-small (a .heap) in
+    let s = switch-small (a .stack) in
+    let g = c .globals-most in
+    let w = c .words-most in
+    record {
+      odd = omega arith;
+      mode = omega arith;
+      heap = omega arith;
+      stack = omega arith;
+      globals = omega arith;
+      words = omega arith;
+      above = omega arith;
+    }
+
+pub facts-exported : (f : List ℕ) → FactsClaim f
+facts-exported f = record {
+  taken = λ a e. rw e (facts-told a (examined-facts f a e));
+  refused = λ r e. rw e;
+}

@@ -1,12 +1,14 @@
--- The load as the C host calls it, and what the number that it answers tells of the bytes.
+-- The load as the C host calls it, and what the numbers that calls answer tell: of the bytes, and of the facts.
 -- Assumes nothing.
-use Prim.Native.Nat.{ℕ, _/_, _%_}
+use Prim.Native.Nat.{ℕ, _/_, _%_, _^_}
 use mathlib.Core.Path.{_≡_}
 use mathlib.Core.List.{List}
-use Rattle.rules.specs.Outcome.{Outcome, refusal}
+use Rattle.rules.specs.Outcome.{Outcome, good, bad, refusal}
+use Rattle.rules.specs.Examine.{examinedOf}
+use Rattle.rules.specs.declared.Refusal.{Refusal}
 use Rattle.rules.specs.declared.Facts.{Facts}
 use Rattle.demands.specs.Calls.{Buffers, Call, Declined, Accepted}
-use Rattle.hagolstan.specs.Packed.{packed}
+use Rattle.hagolstan.specs.Packed.{packed, modeNumber, switchNumber, packedFacts}
 
 -- what the contract of `hagolstan_load` says: a call of the load, and its answer as one number
 pub record Exported (f : List ℕ) (bias : ℕ) (choices : List ℕ) (lent left : Buffers) (number : ℕ) : Type 0 where
@@ -28,3 +30,17 @@ pub record Told (f : List ℕ) (bias : ℕ) (choices : List ℕ) (lent left : Bu
 abbrev pub ExportClaim : Type 0
 ExportClaim = (f : List ℕ) (bias : ℕ) (choices : List ℕ) (lent left : Buffers) (number : ℕ)
     → Exported f bias choices lent left number → Told f bias choices lent left number
+
+-- the facts of a file, each in its own bits: two of mode, heap and stack, seventeen of a count; all bits above are 0
+pub record FactsTold (a : Facts) (number : ℕ) : Type 0 where
+  pub odd : number % 2 ≡ 1
+  pub mode : number / 2 ^ 2 % 4 ≡ modeNumber (a .mode)
+  pub heap : number / 2 ^ 4 % 4 ≡ switchNumber (a .heap)
+  pub stack : number / 2 ^ 6 % 4 ≡ switchNumber (a .stack)
+  pub globals : number / 2 ^ 8 % 2 ^ 17 ≡ a .globals
+  pub words : number / 2 ^ 25 % 2 ^ 17 ≡ a .words
+  pub above : number / 2 ^ 42 ≡ 0
+
+pub record FactsClaim (f : List ℕ) : Type 0 where
+  pub taken : (a : Facts) → examinedOf f ≡ good a → FactsTold a (packedFacts (examinedOf f))
+  pub refused : (r : Refusal) → examinedOf f ≡ bad r → packedFacts (examinedOf f) ≡ 0

@@ -1,6 +1,6 @@
 -- What the exported calls answer: one 64-bit number.
 -- Assumes nothing.
-use Prim.Native.Nat.{ℕ, _+_, _*_}
+use Prim.Native.Nat.{ℕ, _+_, _*_, _^_}
 use mathlib.Core.List.{List}
 use Rattle.rules.specs.Outcome.{Outcome, good, bad}
 use Rattle.rules.specs.Descriptors.{Read, finished, global}
@@ -33,11 +33,12 @@ switchNumber switch.Absent = 0
 switchNumber switch.Off = 1
 switchNumber switch.On = 2
 
--- all facts in one number, which is odd; 0 where the file is refused
+-- all facts in one number, which is odd: mode from bit 2 on, heap from 4, stack from 6, globals from 8, words from 25; 0 where
+-- the file is refused
 abbrev pub factsNumber : Facts → ℕ
 factsNumber a =
-    1 + 4 * modeNumber (a .mode) + 16 * switchNumber (a .heap) + 64 * switchNumber (a .stack)
-    + 65536 * a .globals + 4294967296 * a .words
+    1 + 2 ^ 2 * modeNumber (a .mode) + 2 ^ 4 * switchNumber (a .heap) + 2 ^ 6 * switchNumber (a .stack)
+    + 2 ^ 8 * a .globals + 2 ^ 25 * a .words
 
 abbrev pub packedFacts : Outcome Facts → ℕ
 packedFacts (good a) = factsNumber a

@@ -2,7 +2,8 @@
 ghost use mathlib.Core.Path.{_≡_};
 ghost use Prim.Native.Nat.{_≤_};
 ghost use Rattle.rules.specs.Examine.{examinedOf};
-ghost use Rattle.rules.specs.Descriptors.{stepAt};
+ghost use Rattle.rules.specs.Outcome.{good};
+ghost use Rattle.rules.specs.Descriptors.{global, stepAt};
 ghost use Rattle.demands.specs.Table.{positionLimit};
 ghost use Rattle.demands.specs.Calls.{buffers};
 ghost use Rattle.hagolstan.specs.Exported.{Exported};
@@ -10,10 +11,16 @@ ghost use Rattle.hagolstan.specs.Packed.{packedRefusal, packed, modeNumb
 use rules::Answer;
 use rules::Cursor;
 use rules::Facts;
+use rules::Global;
 use rules::Mode;
 use rules::Refusal;
 use rules::Step;
 use rules::Switch;
+
+// Where the counts stand in the facts as one number: globals from bit 8 on, words from bit 25.
+const GLOBALS_UNIT: u64 = 256;
+
+const WORDS_UNIT: u64 = 33554432;
 
 // A refusal as one number.
 fn pack_refusal(r: Refusal) -> u64
@@ -53,8 +60,8 @@ fn facts_number(a: Facts) -> u64
         + 4 * mode_number(mode)
         + 16 * switch_number(heap)
         + 64 * switch_number(stack)
-        + 65536 * (a.globals as u64)
-        + 4294967296 * (a.words as u64)
+        + GLOBALS_UNIT * (a.globals as u64)
+        + WORDS_UNIT * (a.words as u64)
 }
 
 // Examines a file: position × 256 + refusal number, or globals × 256.
@@ -105,6 +112,16 @@ pub extern "C" fn hagolstan_load(
     (a.globals as u64) * 256
 }
 
+// The words of a global that was read: its start and granules, and the moved cursor.
+fn write_global(words: &mut [u8], g: Global, next: Cursor)
+    ensures { λ _. ⌜ now (words .exit) ≡ stepWords (good (global g next)) (now (words .entry)) ⌝ }
+{
+    memory::put64(words, 0, g.start);
+    memory::put64(words, 8, g.granules);
+    memory::put64(words, 16, next.position);
+    memory::put64(words, 24, next.end);
+}
+
 // Reads one descriptor of a table: 0 finished, 1 a global, or the refusal number. Its words go to the lent bytes.
 #[no_mangle]
 pub extern "C" fn hagolstan_step(
@@ -132,9 +149,6 @@ pub extern "C" fn hagolstan_step(
         memory::put64(words, 0, r.position);
         return r.number as u64;
     };
-    memory::put64(words, 0, g.start);
-    memory::put64(words, 8, g.granules);
-    memory::put64(words, 16, next.position);
-    memory::put64(words, 24, next.end);
+    write_global(words, g, next);
     1
 }

@@ -4,14 +4,14 @@ use lib.ListN.{length}
 use mathlib.Core.Path.{_≡_}
 use Prim.Native.Nat.{_≤_, _-_}
 use borrow.Author.Needs.{needs}
-use Rattle.bench.proofs.put_relocations.Statement.{statement}
-use Rattle.bench.proofs.put_relocations.Tie as tie
+use Rattle.bench_images.proofs.put_relocations.Statement.{statement}
+use Rattle.bench_images.proofs.put_relocations.Tie as tie
 
 abbrev Inv-loop : tie.InvT-loop
-Inv-loop f₀ entries i₀ f i = (i ≤ entries) × (length f ≡ length f₀)
+Inv-loop f₀ entries place addend i₀ f i = (i ≤ entries) × (length f ≡ length f₀)
 
 abbrev μ-loop : tie.MeasureT-loop
-μ-loop f₀ entries i₀ f i = entries - i
+μ-loop f₀ entries place addend i₀ f i = entries - i
 
 pub put-relocations-spec : {M : Type 1} → statement M
 put-relocations-spec =

@@ -1,0 +1,98 @@
+// Images for the bench sheet: one writable PT_LOAD from address 0 on, the sheet's three globals, RELATIVE relocations.
+ghost use mathlib.Core.Path.{_≡_};
+ghost use Prim.Native.Nat.{_+_, _*_};
+ghost use Rattle.rules.specs.Memory.{putWord};
+use rules::DT_MEMTAG_GLOBALS;
+use rules::DT_MEMTAG_GLOBALSSZ;
+use rules::DT_RELA;
+use rules::DT_RELAENT;
+use rules::DT_RELASZ;
+
+// Where the parts of an image stand, in the file and in memory. PLACE is that of a first relocation.
+const HEADERS: usize = 64;
+
+const ENTRIES: usize = 256;
+
+const DESCRIPTORS: usize = 384;
+
+pub const PLACE: usize = 448;
+
+const RELA: usize = 512;
+
+// A program header's kind, and its flags in the high half: PT_LOAD, readable and writable, and PT_DYNAMIC.
+const WRITABLE_LOAD: u64 = 0x600000001;
+
+const PT_DYNAMIC: u64 = 2;
+
+// R_AARCH64_RELATIVE.
+const RELATIVE: u64 = 1027;
+
+// A dynamic entry by its index: a tag and a value.
+fn put_dynamic(f: &mut [u8], i: u8, tag: u64, value: u64)
+    ensures { λ _. ⌜ now (f .exit) ≡ putWord (putWord (now (f .entry)) (256 + 16 * i) tag) (256 + 16 * i + 8) value ⌝ }
+{
+    let at = ENTRIES + 16 * (i as usize);
+    memory::put64(f, at, tag);
+    memory::put64(f, at + 8, value);
+}
+
+// A RELATIVE relocation by its index: a place and an addend.
+pub fn put_relative(f: &mut [u8], i: u32, place: u64, addend: u64)
+    ensures { λ _. ⌜ now (f .exit) ≡ putWord (putWord (putWord (now (f .entry)) (512 + 24 * i) place) (512 + 24 * i + 8) 1027) (512 + 24 * i + 16) addend ⌝ }
+{
+    let at = RELA + 24 * (i as usize);
+    memory::put64(f, at, place);
+    memory::put64(f, at + 8, RELATIVE);
+    memory::put64(f, at + 16, addend);
+}
+
+// A program header by its index: its kind and flags, where it starts, its bytes in the file and in memory.
+fn put_header(f: &mut [u8], i: u8, kind: u64, start: u64, filesz: u64, memsz: u64) {
+    let at = HEADERS + 56 * (i as usize);
+    memory::put64(f, at, kind);
+    memory::put64(f, at + 8, start);
+    memory::put64(f, at + 16, start);
+    memory::put64(f, at + 32, filesz);
+    memory::put64(f, at + 40, memsz);
+}
+
+// The file header.
+fn put_file_header(f: &mut [u8]) {
+    memory::put_bytes(f, 0, b"\x7fELF\x02\x01\x01");
+    // Type 3, machine 183, version 1.
+    memory::put_bytes(f, 16, b"\x03\x00\xb7\x00\x01\x00\x00\x00");
+    memory::put64(f, 32, HEADERS as u64);
+    // Header size 56, count 2.
+    memory::put_bytes(f, 54, b"\x38\x00\x02\x00");
+}
+
+fn rela_bytes(entries: u32) -> u64
+    ensures { λ r. ⌜ r ≡ 24 * entries ⌝ }
+{
+    24 * (entries as u64)
+}
+
+// The dynamic table of an image with so many relocations.
+fn put_table(f: &mut [u8], entries: u32) {
+    put_dynamic(f, 0, DT_RELA, RELA as u64);
+    put_dynamic(f, 1, DT_RELASZ, rela_bytes(entries));
+    put_dynamic(f, 2, DT_RELAENT, 24);
+    put_dynamic(f, 3, DT_MEMTAG_GLOBALS, DESCRIPTORS as u64);
+    put_dynamic(f, 4, DT_MEMTAG_GLOBALSSZ, 5);
+}
+
+// An image of the sheet's three globals, all but the relocations themselves.
+pub fn put_image(f: &mut [u8], filesz: u64, memsz: u64, entries: u32) {
+    put_file_header(f);
+    put_header(f, 0, WRITABLE_LOAD, 0, filesz, memsz);
+    put_header(f, 1, PT_DYNAMIC, ENTRIES as u64, 96, 96);
+    put_table(f, entries);
+    memory::put_bytes(f, DESCRIPTORS, b"\x82\x10\x10\x07\x01");
+}
+
+// So many relocations of one addend, at places that follow one another from a first.
+pub fn put_relocations(f: &mut [u8], entries: u32, place: u32, addend: u64) {
+    for i in 0..entries {
+        put_relative(f, i, place as u64 + 8 * (i as u64), addend);
+    }
+}
