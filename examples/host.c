@@ -118,6 +118,10 @@ int main(int count, char **words)
 
     /* A host in the field draws the choices at random. */
     size_t globals = HAGOLSTAN_GLOBALS(facts);
+    if (globals > sizeof choices) {
+        fprintf(stderr, "%zu globals, and room for %zu choices\n", globals, sizeof choices);
+        return 2;
+    }
     for (size_t i = 0; i < globals; i++)
         choices[i] = (uint8_t)(1 + 7 * i % 15);
 
