@@ -25,6 +25,7 @@ use Rattle.rules.specs.declared.Refusal.{Refusal}
 use Rattle.rules.specs.declared.Module.{Module}
 use Rattle.rules.specs.declared.Facts.{Facts}
 use Rattle.rules.specs.declared.Walked.{Walked}
+use Rattle.rules.specs.declared.Checked.the-variants as answer
 use Rattle.rules.proofs.OutcomeLaws.{andThen-good}
 use Rattle.rules.proofs.ChecksLaws.{checked-then}
 use Rattle.laws.proofs.Checks.{andThen-bad}
@@ -50,15 +51,19 @@ module-count f m e = let r = module-reads f m e in rw (r .globals, r .count)
 
 -- ---- checks 10 to 14
 
+-- a refusal is told once
+pub refused-once : (p q : Refusal) → answer.Refused p ≡ answer.Refused q → p ≡ q
+refused-once p q e = cc
+
 module _ (f : List ℕ) (m : Module) (bias n p : ℕ) (choices : List ℕ) where
   abbrev Checks : Check
   Checks = runs (callChecks f m bias n p choices)
 
   -- by what the walk of the items found
-  pub checks-stopped : (r : Refusal) → walkOf f m bias ≡ bad r → Checks ≡ bad r
+  checks-stopped : (r : Refusal) → walkOf f m bias ≡ bad r → Checks ≡ bad r
   checks-stopped r w = let q = walk-refused f m bias r w in rw q
 
-  pub checks-walked : (w : Walked) → walkOf f m bias ≡ good w → lentIn f m (w .outside) bias n p choices ≡ Checks
+  checks-walked : (w : Walked) → walkOf f m bias ≡ good w → lentIn f m (w .outside) bias n p choices ≡ Checks
   unfolding lentIn addressesCheck
   checks-walked w e =
       let k = walk-found f m bias w e in
@@ -69,6 +74,18 @@ module _ (f : List ℕ) (m : Module) (bias n p : ℕ) (choices : List ℕ) where
       go (good _) (good _) (bad r) = refl
       go (good _) (bad r) c = refl
       go (bad r) b c = refl
+
+  -- the answer: a refusal of the walk, one of checks 12 to 14, or the facts
+  pub check-stopped : (r : Refusal) → walkOf f m bias ≡ bad r → checked (callChecks f m bias n p choices) (factsOf f m) ≡ bad r
+  check-stopped r w = let q = checks-stopped r w in rw q
+
+  module _ (w : Walked) (e : walkOf f m bias ≡ good w) where
+    pub check-refused : (r : Refusal) → lentIn f m (w .outside) bias n p choices ≡ bad r
+        → checked (callChecks f m bias n p choices) (factsOf f m) ≡ bad r
+    check-refused r l = let q = sym (checks-walked w e) ∙ l in rw q
+
+    pub check-passed : lentIn f m (w .outside) bias n p choices ≡ good tt → checked (callChecks f m bias n p choices) (factsOf f m) ≡ good (factsOf f m)
+    check-passed l = let q = sym (checks-walked w e) ∙ l in rw q
 
 -- ---- the writes
 

@@ -1,10 +1,10 @@
 -- Reading, then the checks, then the writes; a refusal comes before any write.
 -- Assumes nothing.
-use mathlib.Core.Path.{_≡_, sym}
 use Prim.Native.Nat.{ℕ}
-use Rattle.load.proofs.Laws.{chosen-read, chosen-refused, call-unread, call-unfit, call-passes, call-taken}
-use Rattle.demands.specs.Calls.{buffers}
+use mathlib.Core.Path.{_≡_, sym}
 use native.Mathlib.Omega.{arith}
+use Rattle.demands.specs.Calls.{buffers}
+use Rattle.load.proofs.Laws.{call-unread, call-unfit, call-taken}
 use borrow.Author.Needs.{needs}
 use Rattle.load.proofs.load_module.Statement.{statement}
 use Rattle.load.proofs.load_module.Tie as tie
@@ -17,53 +17,42 @@ returns-2 c =
     let unread = c .before .before .before .before in
     let a = unread .before .before .before .before .before .before .before .args in
     let r = unread .read2 .given .0 .0 in
-    let e = chosen-refused (a .f .now) (a .choices .now) r (sym (rw (unread .read2 .given .1) at (unread .before .before .read-chosen .ensures))) in
+    let e = sym (rw (unread .read2 .given .1) at (unread .before .before .read-module .ensures)) in
     let same : c .before .read3 .given .0 .0 ≡ r = cc in
     rw same (call-unread (a .f .now) (a .bias) (a .choices .now) (buffers (a .memory .now) (a .plane .now)) r e)
 
 check-load-requires : tie.Need-check-load-requires
-check-load-requires c κs = sym (rw (c .before .before .read .given .1) at (c .before .before .before .before .read-chosen .ensures))
+check-load-requires c κs =
+    let read = c .before in
+    sym (rw (read .read .given .1) at (read .before .before .read-module .ensures))
 
 returns-3 : tie.Need-returns-3
 returns-3 c =
-    let refused = c in
-    let read = refused .before .before .before .before .before in
+    let checked = c .before .before in
+    let read = checked .before .before in
     let a = read .before .before .before .before .before .before .before .args in
-    let found = read .read .given in
-    let m = found .0 .0 .read in
-    let k = chosen-read (a .f .now) (a .choices .now) (found .0 .0) (sym (rw (found .1) at (read .before .before .read-chosen .ensures))) in
-    let r = refused .enum-told3 .given .0 .0 in
-    let x = sym (rw (refused .enum-told3 .given .1) at (refused .before .before .check-load .ensures)) in
-    rw (refused .enum-told3 .given .1)
-    (call-unfit (a .f .now) (a .bias) (a .choices .now) (buffers (a .memory .now) (a .plane .now)) m (k .0) r x)
-
-write-load-requires : tie.Need-write-load-requires
-write-load-requires c κs =
-    let taken = c .before .before in
-    let read = taken .before .before .before .before .before in
-    let a = read .before .before .before .before .before .before .before .args in
-    let found = read .read .given in
-    let m = found .0 .0 .read in
-    let k = chosen-read (a .f .now) (a .choices .now) (found .0 .0) (sym (rw (found .1) at (read .before .before .read-chosen .ensures))) in
-    let x = sym (rw (taken .enum-told2 .given .1) at (taken .before .before .check-load .ensures)) in
-    call-passes (a .f .now) (a .bias) (a .choices .now) (buffers (a .memory .now) (a .plane .now)) m (k .0) (taken .enum-told2 .given .0 .0) x
+    let m = read .read .given .0 .0 in
+    let e = sym (rw (read .read .given .1) at (read .before .before .read-module .ensures)) in
+    let r = c .enum-told3 .given .0 .0 in
+    let x = sym (rw (c .enum-told3 .given .1) at (checked .check-load .ensures)) in
+    rw (c .enum-told3 .given .1) (call-unfit (a .f .now) (a .bias) (a .choices .now) (buffers (a .memory .now) (a .plane .now)) m e r x)
 
 returns-4 : tie.Need-returns-4
 returns-4 c =
     let written = c .before .before .before .before in
     let taken = written .before .before .before in
-    let read = taken .before .before .before .before .before in
+    let checked = taken .before .before in
+    let read = checked .before .before in
     let a = read .before .before .before .before .before .before .before .args in
-    let found = read .read .given in
-    let m = found .0 .0 .read in
-    let k = chosen-read (a .f .now) (a .choices .now) (found .0 .0) (sym (rw (found .1) at (read .before .before .read-chosen .ensures))) in
-    let x = sym (rw (taken .enum-told2 .given .1) at (taken .before .before .check-load .ensures)) in
+    let m = read .read .given .0 .0 in
+    let e = sym (rw (read .read .given .1) at (read .before .before .read-module .ensures)) in
+    let x = sym (rw (taken .enum-told2 .given .1) at (checked .check-load .ensures)) in
     rw (taken .enum-told2 .given .1)
-    (call-taken (a .f .now) (a .bias) (a .choices .now) (buffers (a .memory .now) (a .plane .now)) m (k .0) (taken .enum-told2 .given .0 .0)
+    (call-taken (a .f .now) (a .bias) (a .choices .now) (buffers (a .memory .now) (a .plane .now)) m e (taken .enum-told2 .given .0 .0)
     (buffers _ _) x (written .write-load .ensures .0) (written .write-load .ensures .1))
 
 pub load-module-spec : {M : Type 1} → statement M
 load-module-spec =
     tie.close
-    (tie.spec (search needs) (search needs) (search needs) (search needs) (search needs) returns returns-2 check-load-requires
-    (search needs) (search needs) returns-3 write-load-requires (search needs) (search needs) returns-4)
+    (tie.spec (search needs) (search needs) (search needs) (search needs) (search needs) returns returns-2 check-load-requires (search needs)
+    (search needs) returns-3 (search needs) (search needs) (search needs) returns-4)
