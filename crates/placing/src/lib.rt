@@ -1,5 +1,6 @@
 // Check 12, and the writes to memory: segments placed, words relocated.
 ghost use mathlib.Core.Path.{_≡_};
+ghost use mathlib.Core.Bool.{_&&_};
 ghost use lib.ListN.{length};
 ghost use Rattle.rules.specs.Memory.{putWord};
 ghost use Rattle.rules.specs.Relocations.{items};
@@ -26,36 +27,26 @@ const BAD_LENDING: u8 = 12;
 // A tag stands in bits 56 to 59 of a word.
 const TAG_UNIT: u64 = 72057594037927936;
 
-// Check 12, of the memory and the bias.
-fn memory_fits(f: &[u8], h: Headers, memory: u64, bias: u64) -> bool
-    ensures { λ r. ⌜ r ≡ memoryFits (loadsEnd (now (f .entry)) h) memory bias ⌝ }
+// The lent memory, the plane and the bias fit.
+fn lending_fits(f: &[u8], h: Headers, memory: u64, plane: u64, bias: u64) -> bool
+    ensures { λ r. ⌜ r ≡ (memoryFits (loadsEnd (now (f .entry)) h) memory bias && planeFits memory plane) ⌝ }
 {
     reads::both(
-        memory % GRANULE == 0,
         reads::both(
-            segments::loads_end_within(f, h, memory),
+            memory % GRANULE == 0,
             reads::both(
-                memory <= MEMORY_LIMIT,
+                segments::loads_end_within(f, h, memory),
                 reads::both(
-                    bias % PAGE == 0,
-                    reads::sum_within(bias, memory, ADDRESS_LIMIT),
+                    memory <= MEMORY_LIMIT,
+                    reads::both(
+                        bias % PAGE == 0,
+                        reads::sum_within(bias, memory, ADDRESS_LIMIT),
+                    ),
                 ),
             ),
         ),
+        plane == memory / GRANULE,
     )
-}
-
-// Check 12, of the plane.
-fn plane_fits(memory: u64, plane: u64) -> bool
-    ensures { λ r. ⌜ r ≡ planeFits memory plane ⌝ }
-{
-    if plane != memory / GRANULE {
-        return false;
-    }
-    if memory % GRANULE != 0 {
-        return false;
-    }
-    true
 }
 
 // Check 12: the lent memory, the plane and the bias.
@@ -63,7 +54,7 @@ pub fn check_lending(f: &[u8], m: Module, memory: u64, plane: u64, bias: u64) ->
     ensures { λ r. ⌜ ofChecked r ≡ lendingCheck (now (f .entry)) m bias memory plane ⌝ }
 {
     let h = m.headers;
-    if reads::both(memory_fits(f, h, memory, bias), plane_fits(memory, plane)) {
+    if lending_fits(f, h, memory, plane, bias) {
         return Checked::Passed;
     }
     Checked::Refused(Refusal {

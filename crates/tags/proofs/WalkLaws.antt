@@ -13,6 +13,7 @@ use Rattle.rules.specs.declared.Cursor.{Cursor}
 use Rattle.rules.specs.declared.Global.{Global}
 use Rattle.rules.specs.declared.Reading.{Reading}
 use Rattle.laws.proofs.Globals.{step-next}
+use Rattle.descriptors.proofs.Laws.{reading-global, reading-none}
 use Rattle.tags.specs.Walks.{globalIn, cursorIn, onStep, badAfter, choicesFrom, taggedFrom}
 
 module _ (s : List ℕ) (i : ℕ) (c : Cursor) (r : Reading) (e : r ≡ readingOf (stepAt i s c)) where
@@ -22,21 +23,15 @@ module _ (s : List ℕ) (i : ℕ) (c : Cursor) (r : Reading) (e : r ≡ readingO
     where
       go : (o : Outcome Read) → stepAt i s c ≡ o → onStep o done more ≡ done
       go (good finished) q = refl
-      go (good (global g next)) q =
-          let f = step-next i s c (global g next) q .1 .filled in
-          let n : r .granules ≡ g .granules = ap (λ (x : Reading). x .granules) (e ∙ ap readingOf q) in
-          absurd (omega arith)
+      go (good (global g next)) q = absurd (reading-none (stepAt i s c) r (λ x y k. step-next i s c (global x y) k .1 .filled) e z g next q)
       go (bad x) q = refl
 
   -- any other has its numbers
   pub step-some : {A : Type 0} (done : A) (more : Global → Cursor → A) → (r .granules ≡ 0 → ⊥)
       → onStep (stepAt i s c) done more ≡ more (globalIn r) (cursorIn r)
-  step-some {A} done more z = go (stepAt i s c) e
-    where
-      go : (o : Outcome Read) → r ≡ readingOf o → onStep o done more ≡ more (globalIn r) (cursorIn r)
-      go (good finished) q = absurd (z (ap (λ (x : Reading). x .granules) q))
-      go (good (global g next)) q = rw q
-      go (bad x) q = absurd (z (ap (λ (x : Reading). x .granules) q))
+  step-some {A} done more z =
+      let l : 0 < r .granules = omega arith in
+      ap (λ (o : Outcome Read). onStep o done more) (reading-global (stepAt i s c) r e l)
 
   module _ (choices : List ℕ) (n : ℕ) (l : i < n) where
     -- ---- check 14

@@ -1,4 +1,4 @@
--- Memory and plane are judged, and both must fit.
+-- Refused where they do not fit.
 -- Assumes nothing.
 use borrow.Author.Needs.{needs}
 use Rattle.rules.specs.Lending.{lendingCheck, lendingFits}
@@ -7,16 +7,11 @@ use Rattle.placing.proofs.check_lending.Tie as tie
 
 returns : tie.Need-returns
 unfolding lendingCheck lendingFits
-returns c =
-    let P = c .before .before in
-    rw (← P .before .memory-fits .ensures, ← P .plane-fits .ensures, ← c .before .both .ensures, c .if1 .taken)
+returns c = rw (← c .before .lending-fits .ensures, c .if1 .taken)
 
 returns-2 : tie.Need-returns-2
 unfolding lendingCheck lendingFits
-returns-2 c =
-    let P = c .before .before in
-    rw (← P .before .memory-fits .ensures, ← P .plane-fits .ensures, ← c .before .both .ensures, c .if1 .left)
+returns-2 c = rw (← c .before .lending-fits .ensures, c .if1 .left)
 
 pub check-lending-spec : {M : Type 1} → statement M
-check-lending-spec =
-    tie.close (tie.spec (search needs) (search needs) (search needs) returns returns-2)
+check-lending-spec = tie.close (tie.spec (search needs) returns returns-2)

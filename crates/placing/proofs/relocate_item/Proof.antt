@@ -19,8 +19,8 @@ returns-2 c =
     let T = A .before in
     let S = T .before in
     let K = S .before .before .before in
-    rw (← K .kind-at .ensures, ne-eqb _ _ (S .before .before .if1 .left), ← S .symbol-at .ensures, ← T .find-target .ensures)
-    (rw (← A .addend-at .ensures, ← P .place-at .ensures) (W .write-word .ensures))
+    rw (← K .kind-at .ensures, ne-eqb _ _ (S .before .before .if1 .left), ← S .symbol-at .ensures)
+    (rw (← T .find-target .ensures, ← A .addend-at .ensures, ← P .place-at .ensures) (W .write-word .ensures))
 
 pub relocate-item-spec : {M : Type 1} → statement M
 relocate-item-spec =

@@ -1,0 +1,23 @@
+-- The tests of the definition, joined; of whole granules the plane is the quotient.
+-- Assumes nothing.
+use borrow.Author.Needs.{needs}
+use Rattle.rules.specs.Lending.{memoryFits, planeFits}
+use Rattle.placing.proofs.LendingLaws.{whole-granules}
+use Rattle.placing.proofs.lending_fits.Statement.{statement}
+use Rattle.placing.proofs.lending_fits.Tie as tie
+
+returns : tie.Need-returns
+unfolding memoryFits planeFits
+returns c =
+    let B4 = c .before in
+    let B3 = B4 .before in
+    let B2 = B3 .before in
+    let B1 = B2 .before in
+    let W = B1 .before in
+    let a = W .before .before .before .args in
+    rw (c .both5 .ensures, B4 .both4 .ensures, B3 .both3 .ensures, B2 .both2 .ensures, B1 .both .ensures)
+    (rw (W .sum-within .ensures, W .before .loads-end-within .ensures) (whole-granules (a .memory) (a .plane) _))
+
+pub lending-fits-spec : {M : Type 1} → statement M
+lending-fits-spec =
+    tie.close (tie.spec (search needs) (search needs) (search needs) (search needs) (search needs) (search needs) (search needs) returns)
