@@ -50,8 +50,15 @@ unfolding stepAt descriptor globalAfter
 read-short index s c v next short sized aligned fits =
     let some : 0 < v = omega arith in
     let inside = short .inside some in
-    rw (le-leb (c .position) (length s) (omega arith), eq-eqb _ _ aligned, le-leb (c .end) addressLimit (omega arith),
-    lt-ltb _ _ inside, short .read some, ne-eqb (v % 8) 0 (λ q. omega arith), le-leb _ _ fits)
+    rw (
+      le-leb (c .position) (length s) (omega arith),
+      eq-eqb _ _ aligned,
+      le-leb (c .end) addressLimit (omega arith),
+      lt-ltb _ _ inside,
+      short .read some,
+      ne-eqb (v % 8) 0 (λ q. omega arith),
+      le-leb _ _ fits,
+    )
 
 -- ---- what was read
 

@@ -51,10 +51,7 @@ fn short_at(s: &[u8], at: u64) -> Short
             }
         }
     }
-    Short {
-        value: 0,
-        next: 0,
-    }
+    Short { value: 0, next: 0 }
 }
 
 // The descriptor at a cursor, of any length.

@@ -19,7 +19,13 @@ use rules::Relocations;
 use rules::RelocationsAnswer;
 
 // Checks 8 and 9: how many globals are described. Then all is found.
-fn read_globals(f: &[u8], h: Headers, d: Dynamic, relocations: Relocations, t: Descriptors) -> ModuleAnswer
+fn read_globals(
+    f: &[u8],
+    h: Headers,
+    d: Dynamic,
+    relocations: Relocations,
+    t: Descriptors,
+) -> ModuleAnswer
     ensures { λ v. ⌜ ofModule v ≡ globalsStage (now (f .entry)) h d relocations t ⌝ }
 {
     let counted = globals::count_globals(f, h, t);

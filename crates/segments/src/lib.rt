@@ -17,10 +17,7 @@ pub struct Span {
 }
 
 // No PT_LOAD.
-pub const NO_SPAN: Span = Span {
-    start: 0,
-    size: 0,
-};
+pub const NO_SPAN: Span = Span { start: 0, size: 0 };
 
 // The kind of a PT_LOAD.
 pub const PT_LOAD: u32 = 1;

@@ -20,14 +20,24 @@ cast-n c =
 returns-2 : tie.Need-returns-2
 unfolding dynamicAt
 returns-2 c =
-    rw (c .before .before .before .before .before .backing .given .1, ← c .before .before .before .is-good-size .ensures,
-    c .before .before .if1 .taken, ← c .before .null-entry .ensures, lt-ltb _ _ (c .if2 .taken))
+    rw (
+      c .before .before .before .before .before .backing .given .1,
+      ← c .before .before .before .is-good-size .ensures,
+      c .before .before .if1 .taken,
+      ← c .before .null-entry .ensures,
+      lt-ltb _ _ (c .if2 .taken),
+    )
 
 returns-3 : tie.Need-returns-3
 unfolding dynamicAt
 returns-3 c =
-    rw (c .before .before .before .before .before .backing .given .1, ← c .before .before .before .is-good-size .ensures,
-    c .before .before .if1 .taken, ← c .before .null-entry .ensures, le-ltb _ _ (c .if2 .left))
+    rw (
+      c .before .before .before .before .before .backing .given .1,
+      ← c .before .before .before .is-good-size .ensures,
+      c .before .before .if1 .taken,
+      ← c .before .null-entry .ensures,
+      le-ltb _ _ (c .if2 .left),
+    )
 
 returns-4 : tie.Need-returns-4
 unfolding dynamicAt

@@ -19,9 +19,12 @@ returns-2 c =
 returns-3 : tie.Need-returns-3
 returns-3 c =
     let a = c .before .before .before .before .before .before .before .before .args in
-    rw (dynamic-one (a .f .now) (a .h) _ (c .before .before .before .before .before .before .dynamic-from .ensures) _ (omega arith)
-    (c .before .before .before .before .dynamic-from2 .ensures) (c .before .before .before .if2 .left), ← c .before .before .header-at .ensures,
-    ← c .before .backing-of .ensures) (c .dynamic-at .ensures)
+    rw (
+      dynamic-one (a .f .now) (a .h) _ (c .before .before .before .before .before .before .dynamic-from .ensures) _ (omega arith)
+          (c .before .before .before .before .dynamic-from2 .ensures) (c .before .before .before .if2 .left),
+      ← c .before .before .header-at .ensures,
+      ← c .before .backing-of .ensures,
+    ) (c .dynamic-at .ensures)
 
 pub find-dynamic-spec : {M : Type 1} → statement M
 find-dynamic-spec =

@@ -17,8 +17,12 @@ returns-4 c =
     let refused = c .before .before .before .before in
     let tried = refused .before .before in
     let found = tried .before .before in
-    rw (← found .before .before .find-dynamic .ensures, found .found .given .1, ← tried .check-entries .ensures,
-    refused .checked .given .1) (cc)
+    rw (
+      ← found .before .before .find-dynamic .ensures,
+      found .found .given .1,
+      ← tried .check-entries .ensures,
+      refused .checked .given .1,
+    ) (cc)
 
 returns-5 : tie.Need-returns-5
 unfolding dynamicStage
@@ -26,8 +30,12 @@ returns-5 c =
     let passed = c .before in
     let tried = passed .before .before in
     let found = tried .before .before in
-    rw (← found .before .before .find-dynamic .ensures, found .found .given .1, ← tried .check-entries .ensures,
-    passed .enum-told2 .given .1) (c .read-tables .ensures)
+    rw (
+      ← found .before .before .find-dynamic .ensures,
+      found .found .given .1,
+      ← tried .check-entries .ensures,
+      passed .enum-told2 .given .1,
+    ) (c .read-tables .ensures)
 
 pub read-dynamic-spec : {M : Type 1} → statement M
 read-dynamic-spec =

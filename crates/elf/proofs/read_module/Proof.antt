@@ -15,16 +15,26 @@ returns-4 c =
     let refused = c .before .before .before .before in
     let tried = refused .before .before in
     let found = tried .before .before in
-    rw (module-dynamic, ← found .before .before .read-headers .ensures, found .found .given .1, ← tried .check-loads .ensures,
-    refused .loads .given .1) (cc)
+    rw (
+      module-dynamic,
+      ← found .before .before .read-headers .ensures,
+      found .found .given .1,
+      ← tried .check-loads .ensures,
+      refused .loads .given .1,
+    ) (cc)
 
 returns-5 : tie.Need-returns-5
 returns-5 c =
     let passed = c .before in
     let tried = passed .before .before in
     let found = tried .before .before in
-    rw (module-dynamic, ← found .before .before .read-headers .ensures, found .found .given .1, ← tried .check-loads .ensures,
-    passed .enum-told2 .given .1) (c .read-dynamic .ensures)
+    rw (
+      module-dynamic,
+      ← found .before .before .read-headers .ensures,
+      found .found .given .1,
+      ← tried .check-loads .ensures,
+      passed .enum-told2 .given .1,
+    ) (c .read-dynamic .ensures)
 
 pub read-module-spec : {M : Type 1} → statement M
 read-module-spec =

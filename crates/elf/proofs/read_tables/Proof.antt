@@ -15,18 +15,26 @@ returns-4 : tie.Need-returns-4
 unfolding tablesStage
 returns-4 c =
     let refused = c .before .before .before .before in
-    let placed = refused .before .before in
-    let found = placed .before .before in
-    rw (← found .before .before .find-relocations .ensures, found .found .given .1, ← placed .find-descriptors .ensures,
-    refused .described2 .given .1) (cc)
+    let tried = refused .before .before in
+    let found = tried .before .before in
+    rw (
+      ← found .before .before .find-relocations .ensures,
+      found .found .given .1,
+      ← tried .find-descriptors .ensures,
+      refused .described2 .given .1,
+    ) (cc)
 
 returns-5 : tie.Need-returns-5
 unfolding tablesStage
 returns-5 c =
     let described = c .before .before in
     let found = described .before .before .before .before in
-    rw (← found .before .before .find-relocations .ensures, found .found .given .1,
-    ← described .before .before .find-descriptors .ensures, described .described .given .1) (c .read-globals .ensures)
+    rw (
+      ← found .before .before .find-relocations .ensures,
+      found .found .given .1,
+      ← described .before .before .find-descriptors .ensures,
+      described .described .given .1,
+    ) (c .read-globals .ensures)
 
 pub read-tables-spec : {M : Type 1} → statement M
 read-tables-spec =

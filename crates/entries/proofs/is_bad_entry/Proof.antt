@@ -13,17 +13,30 @@ returns c = rw (← c .before .before .tag-at .ensures, ← c .before .row-of .e
 returns-2 : tie.Need-returns-2
 unfolding badEntry
 returns-2 c =
-    rw (← c .before .before .before .before .before .before .before .tag-at .ensures,
-    ← c .before .before .before .before .before .before .row-of .ensures, lt-ltb _ _ (c .before .before .before .before .before .if1 .left),
-    ← c .before .before .before .before .row-at .ensures, ← c .before .before .before .value-at .ensures, ← c .before .before .is-allowed .ensures,
-    c .before .if2 .taken, ← c .tag-before .ensures)
+    rw (
+      ← c .before .before .before .before .before .before .before .tag-at .ensures,
+      ← c .before .before .before .before .before .before .row-of .ensures,
+      lt-ltb _ _ (c .before .before .before .before .before .if1 .left),
+      ← c .before .before .before .before .row-at .ensures,
+      ← c .before .before .before .value-at .ensures,
+      ← c .before .before .is-allowed .ensures,
+      c .before .if2 .taken,
+      ← c .tag-before .ensures,
+    )
 
 returns-3 : tie.Need-returns-3
 unfolding badEntry
 returns-3 c =
-    rw (← c .before .before .before .before .before .before .tag-at .ensures, ← c .before .before .before .before .before .row-of .ensures, lt-ltb _ _
-    (c .before .before .before .before .if1 .left), ← c .before .before .before .row-at .ensures, ← c .before .before .value-at .ensures,
-    ← c .before .is-allowed .ensures, c .if2 .left)
+    rw (
+      ← c .before .before .before .before .before .before .tag-at .ensures,
+      ← c .before .before .before .before .before .row-of .ensures,
+      lt-ltb _ _
+          (c .before .before .before .before .if1 .left),
+      ← c .before .before .before .row-at .ensures,
+      ← c .before .before .value-at .ensures,
+      ← c .before .is-allowed .ensures,
+      c .if2 .left,
+    )
 
 pub is-bad-entry-spec : {M : Type 1} → statement M
 is-bad-entry-spec =

@@ -34,7 +34,7 @@ mul-hold c =
     let l = read .before .before .loop in
     let a = read .before .before .before .before .before .args in
     let fits = read-fits (a .f .now) (a .h) (a .table .now) (l .c) (l .holder) (l .i) (l .inv) (read .read-global .result)
-        (read .read-global .ensures) (omega arith) in
+    (read .read-global .ensures) (omega arith) in
     omega arith
 
 hold-requires : tie.Need-hold-requires Inv-loop μ-loop

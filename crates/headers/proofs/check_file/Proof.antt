@@ -13,15 +13,23 @@ returns-2 : tie.Need-returns-2
 returns-2 c =
     let identified = c .before .before in
     let sized = identified .before in
-    rw (← sized .before .before .check-size .ensures, sized .enum-told .given .1, ← identified .check-identification .ensures,
-    c .enum-told4 .given .1)
+    rw (
+      ← sized .before .before .check-size .ensures,
+      sized .enum-told .given .1,
+      ← identified .check-identification .ensures,
+      c .enum-told4 .given .1,
+    )
 
 returns-3 : tie.Need-returns-3
 returns-3 c =
     let identified = c .before in
     let sized = identified .before .before .before in
-    rw (← sized .before .before .check-size .ensures, sized .enum-told .given .1,
-    ← identified .before .before .check-identification .ensures, identified .enum-told3 .given .1)
+    rw (
+      ← sized .before .before .check-size .ensures,
+      sized .enum-told .given .1,
+      ← identified .before .before .check-identification .ensures,
+      identified .enum-told3 .given .1,
+    )
     (c .check-header .ensures ∙ sym (run-one _))
 
 pub check-file-spec : {M : Type 1} → statement M

@@ -15,8 +15,16 @@ returns c =
     let version = size .before in
     let machine = version .before in
     let kind = machine .before in
-    rw (← kind .read16 .ensures, ← machine .read162 .ensures, ← version .read32 .ensures, ← size .read163 .ensures,
-    ← count .read164 .ensures, ← table .read64 .ensures, ← judged .is-good-header .ensures, c .if1 .taken)
+    rw (
+      ← kind .read16 .ensures,
+      ← machine .read162 .ensures,
+      ← version .read32 .ensures,
+      ← size .read163 .ensures,
+      ← count .read164 .ensures,
+      ← table .read64 .ensures,
+      ← judged .is-good-header .ensures,
+      c .if1 .taken,
+    )
 
 returns-2 : tie.Need-returns-2
 unfolding headerCheck
@@ -28,8 +36,16 @@ returns-2 c =
     let version = size .before in
     let machine = version .before in
     let kind = machine .before in
-    rw (← kind .read16 .ensures, ← machine .read162 .ensures, ← version .read32 .ensures, ← size .read163 .ensures,
-    ← count .read164 .ensures, ← table .read64 .ensures, ← judged .is-good-header .ensures, c .if1 .left)
+    rw (
+      ← kind .read16 .ensures,
+      ← machine .read162 .ensures,
+      ← version .read32 .ensures,
+      ← size .read163 .ensures,
+      ← count .read164 .ensures,
+      ← table .read64 .ensures,
+      ← judged .is-good-header .ensures,
+      c .if1 .left,
+    )
 
 pub check-header-spec : {M : Type 1} → statement M
 check-header-spec =

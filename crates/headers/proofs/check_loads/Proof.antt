@@ -43,10 +43,16 @@ loop-again c =
     let l = c .before .before .before .before .before .loop in
     let a = c .before .before .before .before .before .before .before .args in
     let t = badLoad (a .f .now) (a .h) in
-    let b : badLoad (a .f .now) (a .h) (l .i) ≡ false = rw (← c .before .before .before .header-at .ensures, ← l .inv .1,
-    ← c .before .before .is-bad-load .ensures) (c .before .if1 .left) in
-    (omega arith, rw (add-one, ← c .before .before .before .header-at .ensures, ← l .inv .1) (c .end-after .ensures), l .inv .2 ∙ first-step t (l .i)
-    (a .h .count) (omega arith) b)
+    let b : badLoad (a .f .now) (a .h) (l .i) ≡ false = rw (
+      ← c .before .before .before .header-at .ensures,
+      ← l .inv .1,
+      ← c .before .before .is-bad-load .ensures,
+    ) (c .before .if1 .left) in (
+      omega arith,
+      rw (add-one, ← c .before .before .before .header-at .ensures, ← l .inv .1) (c .end-after .ensures),
+      l .inv .2 ∙ first-step t (l .i)
+          (a .h .count) (omega arith) b,
+    )
 
 returns-2 : tie.Need-returns-2 Inv-loop μ-loop
 unfolding loadsCheck

@@ -8,8 +8,11 @@ use Rattle.headers.proofs.end_after.Tie as tie
 
 add-result : tie.Need-add-result
 add-result c =
-    omega (arith, load-end (c .before .before .before .args .length) (c .before .before .before .args .last) (c .before .before .before .args .s)
-    (eq-eqb _ _ (c .before .if1 .taken)) (c .before .before .before .pre))
+    omega (
+      arith,
+      load-end (c .before .before .before .args .length) (c .before .before .before .args .last) (c .before .before .before .args .s)
+          (eq-eqb _ _ (c .before .if1 .taken)) (c .before .before .before .pre),
+    )
 
 returns : tie.Need-returns
 returns c = rw (eq-eqb _ _ (c .before .if1 .taken))

@@ -24,9 +24,17 @@ returns c =
 loop-again : tie.Need-loop-again Inv-loop μ-loop
 loop-again c =
     let l = c .before .before .loop in
-    let a = c .before .before .before .args .a in
-    (omega arith, half-less (l .n) (l .p) (omega arith) (l .inv .1), rw (l .inv .2, power-step (l .n) a (omega arith), ← l .inv .1, ne-eqb _ _
-    (c .if1 .left)))
+    let a = c .before .before .before .args .a in (
+      omega arith,
+      half-less (l .n) (l .p) (omega arith) (l .inv .1),
+      rw (
+        l .inv .2,
+        power-step (l .n) a (omega arith),
+        ← l .inv .1,
+        ne-eqb _ _
+            (c .if1 .left),
+      ),
+    )
 
 returns-2 : tie.Need-returns-2 Inv-loop μ-loop
 unfolding powerBelow

@@ -42,9 +42,12 @@ loop-again c =
     let l = c .before .before .before .loop in
     let s = a .s .now in
     let k : length s - (l .end - 1) ≡ suc (length s - l .end) = omega arith in
-    let r = byte-room (length s - l .end) (l .value) (c .wide .result) (omega arith) (l .inv .3) (omega arith) in
-    (omega arith, omega arith, rw (c .wide .ensures, c .before .byte .ensures) (le-more s (l .end) (l .value) (omega arith) (l .inv .0) (l .inv .2)),
-    rw k (r .0))
+    let r = byte-room (length s - l .end) (l .value) (c .wide .result) (omega arith) (l .inv .3) (omega arith) in (
+      omega arith,
+      omega arith,
+      rw (c .wide .ensures, c .before .byte .ensures) (le-more s (l .end) (l .value) (omega arith) (l .inv .0) (l .inv .2)),
+      rw k (r .0),
+    )
 
 returns : tie.Need-returns Inv-loop μ-loop
 returns c =

@@ -13,16 +13,29 @@ returns c = rw (← c .before .read32 .ensures, ne-eqb _ _ (c .if1 .taken))
 returns-2 : tie.Need-returns-2
 unfolding holdsAt holds headerAt
 returns-2 c =
-    rw (c .both .ensures, c .before .before .before .holds-range .ensures, c .before .read322 .ensures, c .before .before .if2 .taken,
-    c .before .before .before .before .read642 .ensures, c .before .before .before .before .before .read64 .ensures,
-    ← c .before .before .before .before .before .before .before .read32 .ensures, eq-eqb _ _
-    (c .before .before .before .before .before .before .if1 .left))
+    rw (
+      c .both .ensures,
+      c .before .before .before .holds-range .ensures,
+      c .before .read322 .ensures,
+      c .before .before .if2 .taken,
+      c .before .before .before .before .read642 .ensures,
+      c .before .before .before .before .before .read64 .ensures,
+      ← c .before .before .before .before .before .before .before .read32 .ensures,
+      eq-eqb _ _
+          (c .before .before .before .before .before .before .if1 .left),
+    )
 
 returns-3 : tie.Need-returns-3
 unfolding holdsAt holds headerAt
 returns-3 c =
-    rw (c .before .holds-range .ensures, c .if2 .left, c .before .before .read642 .ensures, c .before .before .before .read64 .ensures,
-    ← c .before .before .before .before .before .read32 .ensures, eq-eqb _ _ (c .before .before .before .before .if1 .left))
+    rw (
+      c .before .holds-range .ensures,
+      c .if2 .left,
+      c .before .before .read642 .ensures,
+      c .before .before .before .read64 .ensures,
+      ← c .before .before .before .before .before .read32 .ensures,
+      eq-eqb _ _ (c .before .before .before .before .if1 .left),
+    )
 
 pub is-holding-at-spec : {M : Type 1} → statement M
 is-holding-at-spec =

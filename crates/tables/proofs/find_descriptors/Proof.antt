@@ -10,9 +10,14 @@ use Rattle.tables.proofs.find_descriptors.Tie as tie
 returns : tie.Need-returns
 unfolding descriptorsOf
 returns c =
-    rw (← c .before .before .before .before .before .before .entry-of .ensures, ← c .before .before .before .before .before .or-zero .ensures,
-    ← c .before .before .before .before .entry-of2 .ensures, ← c .before .before .before .or-zero2 .ensures,
-    ← c .before .before .table-backing .ensures, c .enum-told .given .1)
+    rw (
+      ← c .before .before .before .before .before .before .entry-of .ensures,
+      ← c .before .before .before .before .before .or-zero .ensures,
+      ← c .before .before .before .before .entry-of2 .ensures,
+      ← c .before .before .before .or-zero2 .ensures,
+      ← c .before .before .table-backing .ensures,
+      c .enum-told .given .1,
+    )
 
 cast-t11 : tie.Need-cast-t11
 cast-t11 c =
@@ -25,9 +30,14 @@ cast-t11 c =
 returns-2 : tie.Need-returns-2
 unfolding descriptorsOf
 returns-2 c =
-    rw (← c .before .before .before .before .before .before .before .entry-of .ensures,
-    ← c .before .before .before .before .before .before .or-zero .ensures, ← c .before .before .before .before .before .entry-of2 .ensures,
-    ← c .before .before .before .before .or-zero2 .ensures, ← c .before .before .before .table-backing .ensures, c .before .backing .given .1)
+    rw (
+      ← c .before .before .before .before .before .before .before .entry-of .ensures,
+      ← c .before .before .before .before .before .before .or-zero .ensures,
+      ← c .before .before .before .before .before .entry-of2 .ensures,
+      ← c .before .before .before .before .or-zero2 .ensures,
+      ← c .before .before .before .table-backing .ensures,
+      c .before .backing .given .1,
+    )
 
 pub find-descriptors-spec : {M : Type 1} → statement M
 find-descriptors-spec =
