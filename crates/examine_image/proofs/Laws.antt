@@ -8,8 +8,8 @@ use lib.ListN.{length}
 use Rattle.rules.specs.Outcome.{good}
 use Rattle.rules.specs.Limits.{globalLimit}
 use Rattle.rules.specs.Descriptors.{global, stepAt, tableStart, descriptorTable}
-use Rattle.rules.specs.Examine.{moduleOf}
-use Rattle.rules.specs.Load.{globalsIn, globalAt}
+use Rattle.rules.specs.Reader.{moduleOf}
+use Rattle.rules.specs.Choices.{globalsIn, globalAt}
 use Rattle.rules.specs.Answers.{ofStep}
 use Rattle.rules.specs.declared.Headers.{Headers}
 use Rattle.rules.specs.declared.Module.{Module}

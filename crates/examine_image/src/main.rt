@@ -2,8 +2,8 @@
 ghost use mathlib.Core.Path.{_≡_};
 ghost use lib.ListN.{length};
 ghost use Rattle.rules.specs.Outcome.{good, bad};
-ghost use Rattle.rules.specs.Examine.{moduleOf};
-ghost use Rattle.rules.specs.Load.{globalsIn, globalAt};
+ghost use Rattle.rules.specs.Reader.{moduleOf};
+ghost use Rattle.rules.specs.Choices.{globalsIn, globalAt};
 ghost use Rattle.rules.specs.Answers.{ofAnswer};
 ghost use Rattle.examine_image.specs.Image.{imageAnswer};
 use libc::STDIN_FILENO;

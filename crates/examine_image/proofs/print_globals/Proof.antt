@@ -3,7 +3,7 @@
 use Rattle.examine_image.proofs.Laws.{module-walk, module-few, walk-reads, walk-read}
 use mathlib.Core.Logic.{⊎-elim}
 use Rattle.laws.proofs.Globals.{Walk}
-use Rattle.rules.specs.Load.{globalsIn}
+use Rattle.rules.specs.Choices.{globalsIn}
 use lib.ListN.{length}
 use mathlib.Core.Path.{_≡_}
 use Prim.Native.Nat.{_≤_, _-_}
