@@ -41,14 +41,7 @@ fn check_lent(
 }
 
 // Checks 10 to 14 of a module that was read, and its facts.
-fn check_load(
-    f: &[u8],
-    m: Module,
-    bias: u64,
-    memory: u64,
-    plane: u64,
-    choices: &[u8],
-) -> Answer
+fn check_load(f: &[u8], m: Module, bias: u64, memory: u64, plane: u64, choices: &[u8]) -> Answer
     requires { ⌜ moduleOf (now f) ≡ good m ⌝ }
     ensures { λ v. ⌜ ofAnswer v ≡ checked (callChecks (now (f .entry)) m bias memory plane (now (choices .entry))) (factsOf (now (f .entry)) m) ⌝ }
 {
