@@ -68,20 +68,21 @@ module _ (f : List ℕ) (h : Headers) (s : List ℕ) (gs : List Global) (choices
 
 -- ---- of the globals that a table lists
 
-module _ (f : List ℕ) (h : Headers) (t : Descriptors) (gs : List Global) (e : globalsOf f h t ≡ good gs) (choices : List ℕ) (n : ℕ) (l : length gs ≡ n)
-  where
-    pub choices-wrong : (length choices ≡ n → ⊥) → choicesFor gs choices ≡ refuse 14 n
-    unfolding choicesFor
-    choices-wrong d = rw (l, ne-eqb (length choices) n d)
+module _ (f : List ℕ) (h : Headers) (t : Descriptors) (gs : List Global) (e : globalsOf f h t ≡ good gs) (choices : List ℕ) where
+  pub choices-wrong : (n : ℕ) → length gs ≡ n → (length choices ≡ n → ⊥) → choicesFor gs choices ≡ refuse 14 n
+  unfolding choicesFor
+  choices-wrong n l d = rw (l, ne-eqb (length choices) n d)
 
-    pub choices-each : length choices ≡ n → choicesFrom (descriptorTable f t) choices n 0 0 tableStart ≡ choicesFor gs choices
-    unfolding choicesFor
-    choices-each d =
-        let z : 0 + n ≡ n = omega arith in
-        rw (l, eq-eqb (length choices) n d)
-        (rw z at (choices-walk f h (descriptorTable f t) gs choices n 0 0 tableStart (walk-start f h t gs e) (omega arith) (λ q. absurd (omega arith))))
+  pub choices-each : (n : ℕ) → length gs ≡ n → length choices ≡ n
+      → choicesFrom (descriptorTable f t) choices n 0 0 tableStart ≡ choicesFor gs choices
+  unfolding choicesFor
+  choices-each n l d =
+      let z : 0 + n ≡ n = omega arith in
+      rw (l, eq-eqb (length choices) n d)
+      (rw z at (choices-walk f h (descriptorTable f t) gs choices n 0 0 tableStart (walk-start f h t gs e) (omega arith) (λ q. absurd (omega arith))))
 
-    pub plane-tagged : (size : ℕ) → taggedFrom (descriptorTable f t) choices (replicate size 0) n 0 tableStart ≡ planeOf gs choices size
-    unfolding tagged
-    plane-tagged size =
-        tagged-walk f h (descriptorTable f t) gs choices (replicate size 0) (replicate size 0) n 0 tableStart (walk-start f h t gs e) (omega arith) refl
+  pub plane-tagged : (n : ℕ) → length gs ≡ n → (size : ℕ)
+      → taggedFrom (descriptorTable f t) choices (replicate size 0) n 0 tableStart ≡ planeOf gs choices size
+  unfolding tagged
+  plane-tagged n l size =
+      tagged-walk f h (descriptorTable f t) gs choices (replicate size 0) (replicate size 0) n 0 tableStart (walk-start f h t gs e) (omega arith) refl

@@ -9,9 +9,8 @@ use borrow.Author.Tests.{lt-ltb, le-ltb, lt-leb, le-leb, ltb-true, ltb-false}
 use lib.Dec.{ltb}
 use lib.ListN.{getD}
 use lib.IntN.{ℤ, pos, negsuc, _+ℤ_}
-use Rattle.rules.specs.Limits.{granule}
+use Rattle.rules.specs.Limits.{addressLimit, granule}
 use Rattle.rules.specs.Memory.{signed, mod64}
-use Rattle.rules.specs.Addresses.{addressOf}
 use Rattle.rules.specs.Plane.{tagAddress}
 use Rattle.rules.specs.Words.{sourceTag}
 use Rattle.rules.specs.Answers.{inRange}
@@ -29,30 +28,30 @@ by-ltb P a b f g = go (ltb a b) refl
 
 -- m and the signed a, as an address
 module _ (m a : ℕ) where
-  pub up-at : a < 2 ^ 63 → m + a < 2 ^ 48 → At (m + a) ≡ inRange (pos m +ℤ signed a)
-  up-at h g = rw (lt-ltb a (2 ^ 63) h, lt-leb (2 ^ 48) (m + a) g)
+  pub up-at : a < 2 ^ 63 → m + a < addressLimit → At (m + a) ≡ inRange (pos m +ℤ signed a)
+  up-at h g = rw (lt-ltb a (2 ^ 63) h, lt-leb (addressLimit) (m + a) g)
 
-  pub up-out : a < 2 ^ 63 → 2 ^ 48 ≤ m + a → Outside ≡ inRange (pos m +ℤ signed a)
-  up-out h g = rw (lt-ltb a (2 ^ 63) h, le-leb (2 ^ 48) (m + a) g)
+  pub up-out : a < 2 ^ 63 → addressLimit ≤ m + a → Outside ≡ inRange (pos m +ℤ signed a)
+  up-out h g = rw (lt-ltb a (2 ^ 63) h, le-leb (addressLimit) (m + a) g)
 
   pub down-low : 2 ^ 63 ≤ a → m + a < 2 ^ 64 → Outside ≡ inRange (pos m +ℤ signed a)
   down-low h g = rw (le-ltb a (2 ^ 63) h, lt-ltb m (suc (2 ^ 64 - suc a)) (omega arith))
 
-  pub down-at : (x : ℕ) → 2 ^ 63 ≤ a → a < 2 ^ 64 → x + 2 ^ 64 ≡ m + a → x < 2 ^ 48 → At x ≡ inRange (pos m +ℤ signed a)
+  pub down-at : (x : ℕ) → 2 ^ 63 ≤ a → a < 2 ^ 64 → x + 2 ^ 64 ≡ m + a → x < addressLimit → At x ≡ inRange (pos m +ℤ signed a)
   down-at x h k e g =
       let d : m - suc (2 ^ 64 - suc a) ≡ x = omega arith in
-      rw (le-ltb a (2 ^ 63) h, le-ltb m (suc (2 ^ 64 - suc a)) (omega arith), d, lt-leb (2 ^ 48) x g)
+      rw (le-ltb a (2 ^ 63) h, le-ltb m (suc (2 ^ 64 - suc a)) (omega arith), d, lt-leb (addressLimit) x g)
 
-  pub down-out : 2 ^ 63 ≤ a → a < 2 ^ 64 → 2 ^ 64 + 2 ^ 48 ≤ m + a → Outside ≡ inRange (pos m +ℤ signed a)
+  pub down-out : 2 ^ 63 ≤ a → a < 2 ^ 64 → 2 ^ 64 + addressLimit ≤ m + a → Outside ≡ inRange (pos m +ℤ signed a)
   down-out h k g =
-      rw (le-ltb a (2 ^ 63) h, le-ltb m (suc (2 ^ 64 - suc a)) (omega arith), le-leb (2 ^ 48) (m - suc (2 ^ 64 - suc a)) (omega arith))
+      rw (le-ltb a (2 ^ 63) h, le-ltb m (suc (2 ^ 64 - suc a)) (omega arith), le-leb (addressLimit) (m - suc (2 ^ 64 - suc a)) (omega arith))
 
   -- no addend takes more than 2^63 away
   pub far-out : 2 ^ 64 ≤ m → a < 2 ^ 64 → Outside ≡ inRange (pos m +ℤ signed a)
   far-out h k =
       by-ltb (λ t. Outside ≡ inRange (pos m +ℤ cond t (pos a) (negsuc (2 ^ 64 - suc a)))) a (2 ^ 63)
-      (λ l. rw (le-leb (2 ^ 48) (m + a) (omega arith)))
-      (λ l. rw (le-ltb m (suc (2 ^ 64 - suc a)) (omega arith), le-leb (2 ^ 48) (m - suc (2 ^ 64 - suc a)) (omega arith)))
+      (λ l. rw (le-leb (addressLimit) (m + a) (omega arith)))
+      (λ l. rw (le-ltb m (suc (2 ^ 64 - suc a)) (omega arith), le-leb (addressLimit) (m - suc (2 ^ 64 - suc a)) (omega arith)))
 
 -- the wrapped sum is the exact sum modulo 2^64
 mod-add : (z : ℤ) (a : ℕ) → a < 2 ^ 64 → mod64 (z +ℤ signed a) ≡ (mod64 z + a) % 2 ^ 64

@@ -1,5 +1,6 @@
 -- The tests of the definition, joined; of whole granules the plane is the quotient.
 -- Assumes nothing.
+use mathlib.Core.Path.{_∙_}
 use borrow.Author.Needs.{needs}
 use Rattle.rules.specs.Lending.{memoryFits, planeFits}
 use Rattle.placing.proofs.LendingLaws.{whole-granules}
@@ -15,8 +16,9 @@ returns c =
     let B1 = B2 .before in
     let W = B1 .before in
     let a = W .before .before .before .args in
-    rw (c .both5 .ensures, B4 .both4 .ensures, B3 .both3 .ensures, B2 .both2 .ensures, B1 .both .ensures)
-    (rw (W .sum-within .ensures, W .before .loads-end-within .ensures) (whole-granules (a .memory) (a .plane) _))
+    rw (c .both5 .ensures, B4 .both4 .ensures)
+    (whole-granules (a .memory) (a .plane) (B3 .both3 .result)
+    ∙ rw (B3 .both3 .ensures, B2 .both2 .ensures, B1 .both .ensures, W .sum-within .ensures, W .before .loads-end-within .ensures))
 
 pub lending-fits-spec : {M : Type 1} → statement M
 lending-fits-spec =
