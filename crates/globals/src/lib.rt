@@ -49,7 +49,7 @@ fn walk_table(f: &[u8], h: Headers, table: &[u8]) -> GlobalsAnswer
         if g.granules == 0 {
             return finish(table, c, i);
         }
-        holder = segments::hold(f, h, false, holder, g.start, GRANULE * g.granules);
+        holder = segments::hold(f, h, holder, g.start, GRANULE * g.granules);
         if holder.size == 0 {
             return outside(i);
         }

@@ -87,7 +87,7 @@ fn judge(f: &[u8], m: Module, bias: u64, last: Span, i: u32) -> Judged
     if place % 8 != 0 {
         return faulty(11, last);
     }
-    let span = segments::hold(f, h, true, last, place, 8);
+    let span = segments::hold_writable(f, h, last, place, 8);
     if span.size == 0 {
         return faulty(11, last);
     }

@@ -1,6 +1,6 @@
 // The program headers one by one: where bytes are backed, and which PT_LOAD holds them.
 ghost use mathlib.Core.Path.{_≡_};
-ghost use mathlib.Core.Bool.{true, cond};
+ghost use mathlib.Core.Bool.{false, true, cond};
 ghost use Prim.Native.Nat.{_+_, _<_};
 ghost use lib.Dec.{leb};
 ghost use Rattle.rules.specs.Segments.{headerAt, isLoad, loadsEnd, backs, backsAt, backingIn, backingOf, holdsAt};
@@ -134,12 +134,23 @@ fn find_holder(f: &[u8], h: Headers, write: bool, a: u64, n: u64) -> Span
 }
 
 // The PT_LOAD found last where it holds the n bytes from a; else the first that does.
-pub fn hold(f: &[u8], h: Headers, write: bool, last: Span, a: u64, n: u64) -> Span
-    requires { ⌜ (0 < n) × Sound (now f) h write last ⌝ }
-    ensures { λ r. ⌜ Held (now (f .entry)) h write a n r ⌝ }
+pub fn hold(f: &[u8], h: Headers, last: Span, a: u64, n: u64) -> Span
+    requires { ⌜ (0 < n) × Sound (now f) h false last ⌝ }
+    ensures { λ r. ⌜ Held (now (f .entry)) h false a n r ⌝ }
 {
     if reads::holds_range(last.start, last.size, a, n) {
         return last;
     }
-    find_holder(f, h, write, a, n)
+    find_holder(f, h, false, a, n)
+}
+
+// The same among the writable ones.
+pub fn hold_writable(f: &[u8], h: Headers, last: Span, a: u64, n: u64) -> Span
+    requires { ⌜ (0 < n) × Sound (now f) h true last ⌝ }
+    ensures { λ r. ⌜ Held (now (f .entry)) h true a n r ⌝ }
+{
+    if reads::holds_range(last.start, last.size, a, n) {
+        return last;
+    }
+    find_holder(f, h, true, a, n)
 }

@@ -48,8 +48,8 @@ returns-3 c =
     (judged-misfit (a .f .now) (a .m) (a .bias) (a .i) (a .last) (S .pre) (λ z. E .if1 .left (K .kind-at .ensures ∙ z)) b
     (rw (← P .place-at .ensures) (fits-odd (a .f .now) (a .m) (P .place-at .result) (c .before .if3 .taken))))
 
-hold-requires : tie.Need-hold-requires
-hold-requires c κs =
+hold-writable-requires : tie.Need-hold-writable-requires
+hold-writable-requires c κs =
     let B = c .before .before .before in
     let K = B .before .before .before .before .before in
     let S = K .before .before .before in
@@ -70,7 +70,7 @@ returns-4 c =
     let a = S .args in
     let t = target-read (a .f .now) (a .m) (a .i) _ _ _ (K .kind-at .ensures) (Y .symbol-at .ensures) (F .find-target .ensures) in
     let b : barred (targetAt (a .f .now) (a .m) (a .i)) ≡ false = rw (← t, ← B .is-barred .ensures) (L .if2 .left) in
-    let out = O .hold .ensures .none (c .before .if4 .taken) in
+    let out = O .hold-writable .ensures .none (c .before .if4 .taken) in
     rw (c .faulty3 .ensures)
     (judged-misfit (a .f .now) (a .m) (a .bias) (a .i) (a .last) (S .pre) (λ z. E .if1 .left (K .kind-at .ensures ∙ z)) b
     (rw (← P .place-at .ensures) (fits-held (a .f .now) (a .m) (P .place-at .result) false (G .if3 .left) out)))
@@ -92,10 +92,10 @@ returns-5 c =
     let a = S .args in
     let t = target-read (a .f .now) (a .m) (a .i) _ _ _ (K .kind-at .ensures) (Y .symbol-at .ensures) (F .find-target .ensures) in
     let b : barred (targetAt (a .f .now) (a .m) (a .i)) ≡ false = rw (← t, ← B .is-barred .ensures) (L .if2 .left) in
-    let full : 0 < O .hold .result .size = omega arith in
-    let held = O .hold .ensures .some full in
+    let full : 0 < O .hold-writable .result .size = omega arith in
+    let held = O .hold-writable .ensures .some full in
     rw (P .place-at .ensures)
-    (judged-good (a .f .now) (a .m) (a .bias) (a .i) (O .hold .result) (O .hold .ensures .sound) (c .is-outside .result)
+    (judged-good (a .f .now) (a .m) (a .bias) (a .i) (O .hold-writable .result) (O .hold-writable .ensures .sound) (c .is-outside .result)
     (λ z. E .if1 .left (K .kind-at .ensures ∙ z)) b
     (rw (← P .place-at .ensures) (fits-held (a .f .now) (a .m) (P .place-at .result) true (G .if3 .left) held))
     (c .is-outside .ensures ∙ rw (t, A .addend-at .ensures)))
@@ -104,4 +104,4 @@ pub judge-spec : {M : Type 1} → statement M
 judge-spec =
     tie.close
     (tie.spec (search needs) returns (search needs) (search needs) (search needs) (search needs) returns-2 (search needs) (search needs) returns-3
-    hold-requires (search needs) returns-4 (search needs) (search needs) returns-5)
+    hold-writable-requires (search needs) returns-4 (search needs) (search needs) returns-5)

@@ -1,6 +1,7 @@
 -- The PT_LOAD found last holds the bytes, or the search goes over all.
 -- Assumes nothing.
 use mathlib.Core.Path.{sym, _∙_}
+use mathlib.Core.Bool.{false}
 use borrow.Author.Needs.{needs}
 use Rattle.segments.proofs.SpanLaws.{held-last}
 use Rattle.segments.proofs.hold.Statement.{statement}
@@ -9,7 +10,7 @@ use Rattle.segments.proofs.hold.Tie as tie
 returns : tie.Need-returns
 returns c =
     let a = c .before .before .before .args in
-    held-last (a .f .now) (a .h) (a .write) (a .a) (a .n) (a .last) (c .before .before .before .pre .0) (c .before .before .before .pre .1)
+    held-last (a .f .now) (a .h) false (a .a) (a .n) (a .last) (c .before .before .before .pre .0) (c .before .before .before .pre .1)
     (sym (c .before .holds-range .ensures) ∙ c .if1 .taken)
 
 pub hold-spec : {M : Type 1} → statement M
