@@ -3,7 +3,7 @@ ghost use mathlib.Core.Path.{_≡_};
 ghost use mathlib.Core.Bool.{false, cond, not, _&&_};
 ghost use Prim.Native.Nat.{_+_, _<_};
 ghost use lib.ListN.{getD};
-ghost use Rattle.rules.specs.Headers.{sizeCheck, identification, wrongByte, identificationCheck, goodHeader, headerCheck, headerChecks, headersOf};
+ghost use Rattle.rules.specs.Headers.{sizeCheck, identification, identificationCheck, goodHeader, headerCheck, headerChecks, headersOf};
 ghost use Rattle.rules.specs.Checks.{runs};
 ghost use Rattle.rules.specs.Segments.{isLoad, powerBelow, aligned, goodLoad, loadsCheck};
 ghost use Rattle.rules.specs.Answers.{ofChecked, ofHeaders};
@@ -14,7 +14,6 @@ use rules::HEADER_LIMIT;
 use rules::Headers;
 use rules::HeadersAnswer;
 use rules::MEMORY_LIMIT;
-use rules::NEVER;
 use rules::Refusal;
 use rules::Segment;
 use segments::PT_LOAD;
@@ -46,20 +45,12 @@ fn check_size(f: &[u8]) -> Checked
     })
 }
 
-// Check 2, of one byte.
-fn is_wrong_at(f: &[u8], i: usize) -> bool
-    requires { ⌜ i < 7 ⌝ }
-    ensures { λ r. ⌜ r ≡ wrongByte (now (f .entry)) i ⌝ }
-{
-    reads::byte_at(f, i) != identification_at(i)
-}
-
 // Check 2: the identification, refused at the first wrong byte.
 fn check_identification(f: &[u8]) -> Checked
     ensures { λ r. ⌜ ofChecked r ≡ identificationCheck (now (f .entry)) ⌝ }
 {
     for i in 0..7 {
-        if is_wrong_at(f, i) {
+        if reads::byte_at(f, i) != identification_at(i) {
             return Checked::Refused(Refusal {
                 number: 2,
                 position: i as u64,
@@ -144,16 +135,13 @@ pub fn read_headers(f: &[u8]) -> HeadersAnswer
     ensures { λ r. ⌜ ofHeaders r ≡ headersOf (now (f .entry)) ⌝ }
 {
     let file = check_file(f);
-    let Checked::Passed = file else {
-        let Checked::Refused(r) = file else {
-            return HeadersAnswer::Refused(NEVER);
-        };
-        return HeadersAnswer::Refused(r);
-    };
-    HeadersAnswer::Found(Headers {
-        table: reads::read64(f, 32) as u32,
-        count: reads::read16(f, 56) as u32,
-    })
+    match file {
+        Checked::Passed => HeadersAnswer::Found(Headers {
+            table: reads::read64(f, 32) as u32,
+            count: reads::read16(f, 56) as u32,
+        }),
+        Checked::Refused(r) => HeadersAnswer::Refused(r),
+    }
 }
 
 // A power of two below 2^64.

@@ -3,7 +3,7 @@ ghost use mathlib.Core.Path.{_≡_};
 ghost use mathlib.Core.Bool.{true, cond};
 ghost use Prim.Native.Nat.{_+_, _<_};
 ghost use lib.Dec.{leb};
-ghost use Rattle.rules.specs.Segments.{headerAt, isLoad, loadsEnd, backs, backsAt, backingIn, backingOf, holdsAt, inMemory};
+ghost use Rattle.rules.specs.Segments.{headerAt, isLoad, loadsEnd, backs, backsAt, backingIn, backingOf, holdsAt};
 ghost use Rattle.segments.specs.Spans.{Sound, Held};
 use rules::Backing;
 use rules::FILE_LIMIT;
@@ -142,17 +142,4 @@ pub fn hold(f: &[u8], h: Headers, write: bool, last: Span, a: u64, n: u64) -> Sp
         return last;
     }
     find_holder(f, h, write, a, n)
-}
-
-// The n bytes from a are inside the memory part of one PT_LOAD, a writable one where that is asked.
-pub fn in_memory(f: &[u8], h: Headers, write: bool, a: u64, n: u64) -> bool
-    ensures { λ r. ⌜ r ≡ inMemory (now (f .entry)) h write a n ⌝ }
-{
-    let count = h.count;
-    for i in 0..count {
-        if is_holding_at(f, h, write, a, n, i) {
-            return true;
-        }
-    }
-    false
 }

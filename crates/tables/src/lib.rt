@@ -1,5 +1,6 @@
 // Check 7: the relocation and descriptor tables.
 ghost use mathlib.Core.Path.{_≡_};
+ghost use Rattle.rules.specs.Dynamic.{entryOf};
 ghost use Rattle.rules.specs.Tables.{orZero, tableBacking, relocationsOf, descriptorsOf};
 ghost use Rattle.rules.specs.Answers.{ofRelocations, ofDescriptors};
 use rules::Backing;
@@ -20,13 +21,15 @@ use rules::RelocationsAnswer;
 // Bytes of a relocation entry.
 const RELA_BYTES: u64 = 24;
 
-fn or_zero(e: Entry) -> u64
-    ensures { λ r. ⌜ r ≡ orZero e ⌝ }
+// The value of a tag's entry, 0 where there is none.
+fn value_of(f: &[u8], d: Dynamic, tag: u64) -> u64
+    ensures { λ r. ⌜ r ≡ orZero (entryOf (now (f .entry)) d tag) ⌝ }
 {
-    let Entry::Value(v) = e else {
-        return 0;
-    };
-    v
+    let entry = entries::entry_of(f, d, tag);
+    match entry {
+        Entry::Absent => 0,
+        Entry::Value(v) => v,
+    }
 }
 
 // Where a table is backed; one of 0 bytes is accepted at any address.
@@ -43,10 +46,8 @@ fn table_backing(f: &[u8], h: Headers, address: u64, bytes: u64) -> Backing
 pub fn find_relocations(f: &[u8], h: Headers, d: Dynamic) -> RelocationsAnswer
     ensures { λ r. ⌜ ofRelocations r ≡ relocationsOf (now (f .entry)) h d ⌝ }
 {
-    let rela = entries::entry_of(f, d, DT_RELA);
-    let address = or_zero(rela);
-    let relasz = entries::entry_of(f, d, DT_RELASZ);
-    let bytes = or_zero(relasz);
+    let address = value_of(f, d, DT_RELA);
+    let bytes = value_of(f, d, DT_RELASZ);
     let backing = table_backing(f, h, address, bytes);
     let Backing::At(at) = backing else {
         return RelocationsAnswer::Refused(Refusal {
@@ -71,10 +72,8 @@ pub fn find_relocations(f: &[u8], h: Headers, d: Dynamic) -> RelocationsAnswer
 pub fn find_descriptors(f: &[u8], h: Headers, d: Dynamic) -> DescriptorsAnswer
     ensures { λ r. ⌜ ofDescriptors r ≡ descriptorsOf (now (f .entry)) h d ⌝ }
 {
-    let globals = entries::entry_of(f, d, DT_MEMTAG_GLOBALS);
-    let address = or_zero(globals);
-    let globalssz = entries::entry_of(f, d, DT_MEMTAG_GLOBALSSZ);
-    let bytes = or_zero(globalssz);
+    let address = value_of(f, d, DT_MEMTAG_GLOBALS);
+    let bytes = value_of(f, d, DT_MEMTAG_GLOBALSSZ);
     let backing = table_backing(f, h, address, bytes);
     let Backing::At(at) = backing else {
         return DescriptorsAnswer::Refused(Refusal {

@@ -14,28 +14,35 @@ returns c = rw (c .enum-told .given .1)
 
 cast-n : tie.Need-cast-n
 cast-n c =
-    let h = good-size (c .before .before .before .before .before .before .args .size) (rw (← c .before .is-good-size .ensures) (c .if1 .taken)) in
+    let sized = c .before in
+    let h = good-size (sized .before .before .before .before .before .args .size) (rw (← sized .is-good-size .ensures) (c .if1 .taken)) in
     omega arith
 
 returns-2 : tie.Need-returns-2
 unfolding dynamicAt
 returns-2 c =
+    let counted = c .before in
+    let good = counted .before in
+    let sized = good .before in
     rw (
-      c .before .before .before .before .before .backing .given .1,
-      ← c .before .before .before .is-good-size .ensures,
-      c .before .before .if1 .taken,
-      ← c .before .null-entry .ensures,
+      sized .before .before .backing .given .1,
+      ← sized .is-good-size .ensures,
+      good .if1 .taken,
+      ← counted .null-entry .ensures,
       lt-ltb _ _ (c .if2 .taken),
     )
 
 returns-3 : tie.Need-returns-3
 unfolding dynamicAt
 returns-3 c =
+    let counted = c .before in
+    let good = counted .before in
+    let sized = good .before in
     rw (
-      c .before .before .before .before .before .backing .given .1,
-      ← c .before .before .before .is-good-size .ensures,
-      c .before .before .if1 .taken,
-      ← c .before .null-entry .ensures,
+      sized .before .before .backing .given .1,
+      ← sized .is-good-size .ensures,
+      good .if1 .taken,
+      ← counted .null-entry .ensures,
       le-ltb _ _ (c .if2 .left),
     )
 

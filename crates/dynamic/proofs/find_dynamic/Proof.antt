@@ -12,18 +12,23 @@ returns c = let a = c .before .before .before .args in sym (dynamic-none (a .f .
 
 returns-2 : tie.Need-returns-2
 returns-2 c =
-    let a = c .before .before .before .before .before .args in
-    sym (dynamic-more (a .f .now) (a .h) _ (c .before .before .before .dynamic-from .ensures) _ (omega arith) (c .before .dynamic-from2 .ensures)
-    (c .if2 .taken))
+    let second = c .before in
+    let first = second .before .before in
+    let a = first .before .before .args in
+    sym (dynamic-more (a .f .now) (a .h) _ (first .dynamic-from .ensures) _ (omega arith) (second .dynamic-from2 .ensures) (c .if2 .taken))
 
 returns-3 : tie.Need-returns-3
 returns-3 c =
-    let a = c .before .before .before .before .before .before .before .before .args in
+    let backed = c .before in
+    let header = backed .before in
+    let alone = header .before in
+    let second = alone .before in
+    let first = second .before .before in
+    let a = first .before .before .args in
     rw (
-      dynamic-one (a .f .now) (a .h) _ (c .before .before .before .before .before .before .dynamic-from .ensures) _ (omega arith)
-          (c .before .before .before .before .dynamic-from2 .ensures) (c .before .before .before .if2 .left),
-      ← c .before .before .header-at .ensures,
-      ← c .before .backing-of .ensures,
+      dynamic-one (a .f .now) (a .h) _ (first .dynamic-from .ensures) _ (omega arith) (second .dynamic-from2 .ensures) (alone .if2 .left),
+      ← header .header-at .ensures,
+      ← backed .backing-of .ensures,
     ) (c .dynamic-at .ensures)
 
 pub find-dynamic-spec : {M : Type 1} → statement M

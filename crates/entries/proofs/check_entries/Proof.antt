@@ -12,20 +12,24 @@ returns c = rw (← c .before .before .check-each .ensures, c .enum-told2 .given
 returns-2 : tie.Need-returns-2
 unfolding entriesCheck
 returns-2 c =
+    let partners = c .before .before in
+    let passed = partners .before in
     rw (
-      ← c .before .before .before .before .before .check-each .ensures,
-      c .before .before .before .enum-told .given .1,
-      ← c .before .before .lacks-partner .ensures,
+      ← passed .before .before .check-each .ensures,
+      passed .enum-told .given .1,
+      ← partners .lacks-partner .ensures,
       c .before .if1 .taken,
     )
 
 returns-3 : tie.Need-returns-3
 unfolding entriesCheck
 returns-3 c =
+    let partners = c .before in
+    let passed = partners .before in
     rw (
-      ← c .before .before .before .before .check-each .ensures,
-      c .before .before .enum-told .given .1,
-      ← c .before .lacks-partner .ensures,
+      ← passed .before .before .check-each .ensures,
+      passed .enum-told .given .1,
+      ← partners .lacks-partner .ensures,
       c .if1 .left,
     )
 

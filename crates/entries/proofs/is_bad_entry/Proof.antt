@@ -13,13 +13,19 @@ returns c = rw (← c .before .before .tag-at .ensures, ← c .before .row-of .e
 returns-2 : tie.Need-returns-2
 unfolding badEntry
 returns-2 c =
+    let judged = c .before .before in
+    let valued = judged .before in
+    let row = valued .before in
+    let known = row .before in
+    let sought = known .before in
+    let tagged = sought .before in
     rw (
-      ← c .before .before .before .before .before .before .before .tag-at .ensures,
-      ← c .before .before .before .before .before .before .row-of .ensures,
-      lt-ltb _ _ (c .before .before .before .before .before .if1 .left),
-      ← c .before .before .before .before .row-at .ensures,
-      ← c .before .before .before .value-at .ensures,
-      ← c .before .before .is-allowed .ensures,
+      ← tagged .tag-at .ensures,
+      ← sought .row-of .ensures,
+      lt-ltb _ _ (known .if1 .left),
+      ← row .row-at .ensures,
+      ← valued .value-at .ensures,
+      ← judged .is-allowed .ensures,
       c .before .if2 .taken,
       ← c .tag-before .ensures,
     )
@@ -27,14 +33,19 @@ returns-2 c =
 returns-3 : tie.Need-returns-3
 unfolding badEntry
 returns-3 c =
+    let judged = c .before in
+    let valued = judged .before in
+    let row = valued .before in
+    let known = row .before in
+    let sought = known .before in
+    let tagged = sought .before in
     rw (
-      ← c .before .before .before .before .before .before .tag-at .ensures,
-      ← c .before .before .before .before .before .row-of .ensures,
-      lt-ltb _ _
-          (c .before .before .before .before .if1 .left),
-      ← c .before .before .before .row-at .ensures,
-      ← c .before .before .value-at .ensures,
-      ← c .before .is-allowed .ensures,
+      ← tagged .tag-at .ensures,
+      ← sought .row-of .ensures,
+      lt-ltb _ _ (known .if1 .left),
+      ← row .row-at .ensures,
+      ← valued .value-at .ensures,
+      ← judged .is-allowed .ensures,
       c .if2 .left,
     )
 

@@ -15,7 +15,8 @@ use Rattle.headers.proofs.check_loads.Statement.{statement}
 use Rattle.headers.proofs.check_loads.Tie as tie
 
 abbrev Inv-loop : tie.InvT-loop
-Inv-loop f h length count last₀ i₀ last i = (i ≤ count) × (last ≡ endBefore f h i) × (first (badLoad f h) 0 count ≡ first (badLoad f h) i (count - i))
+Inv-loop f h length count last₀ i₀ last i =
+    (i ≤ count) × (last ≡ endBefore f h i) × (first (badLoad f h) 0 count ≡ first (badLoad f h) i (count - i))
 
 abbrev μ-loop : tie.MeasureT-loop
 μ-loop f h length count last₀ i₀ last i = count - i
@@ -27,12 +28,13 @@ loop-holds c = (omega arith, refl, rw sub-zero)
 returns : tie.Need-returns Inv-loop μ-loop
 unfolding loadsCheck badLoad
 returns c =
-    let l = c .before .before .before .before .loop in
-    let a = c .before .before .before .before .before .before .args in
+    let judged = c .before in
+    let header = judged .before in
+    let l = header .before .before .loop in
+    let a = header .before .before .before .before .args in
     let t = badLoad (a .f .now) (a .h) in
-    let b : badLoad (a .f .now) (a .h) (l .i) ≡ true = rw (← c .before .before .header-at .ensures, ← l .inv .1, ← c .before .is-bad-load .ensures)
-    (c .if1 .taken) in
-    sym (faultless-hit 4 t (a .h .count) (l .i) (l .inv .2 ∙ first-hit t (l .i) (a .h .count) (omega arith) b) (omega arith))
+    let hit : t (l .i) ≡ true = rw (← header .header-at .ensures, ← l .inv .1, ← judged .is-bad-load .ensures) (c .if1 .taken) in
+    sym (faultless-hit 4 t (a .h .count) (l .i) (l .inv .2 ∙ first-hit t (l .i) (a .h .count) (omega arith) hit) (omega arith))
 
 end-after-requires : tie.Need-end-after-requires Inv-loop μ-loop
 end-after-requires c κs = sym (c .before .is-bad-load .ensures) ∙ c .if1 .left
@@ -40,18 +42,16 @@ end-after-requires c κs = sym (c .before .is-bad-load .ensures) ∙ c .if1 .lef
 loop-again : tie.Need-loop-again Inv-loop μ-loop
 unfolding badLoad endBefore
 loop-again c =
-    let l = c .before .before .before .before .before .loop in
-    let a = c .before .before .before .before .before .before .before .args in
+    let left = c .before in
+    let judged = left .before in
+    let header = judged .before in
+    let l = header .before .before .loop in
+    let a = header .before .before .before .before .args in
     let t = badLoad (a .f .now) (a .h) in
-    let b : badLoad (a .f .now) (a .h) (l .i) ≡ false = rw (
-      ← c .before .before .before .header-at .ensures,
-      ← l .inv .1,
-      ← c .before .before .is-bad-load .ensures,
-    ) (c .before .if1 .left) in (
+    let fine : t (l .i) ≡ false = rw (← header .header-at .ensures, ← l .inv .1, ← judged .is-bad-load .ensures) (left .if1 .left) in (
       omega arith,
-      rw (add-one, ← c .before .before .before .header-at .ensures, ← l .inv .1) (c .end-after .ensures),
-      l .inv .2 ∙ first-step t (l .i)
-          (a .h .count) (omega arith) b,
+      rw (add-one, ← header .header-at .ensures, ← l .inv .1) (c .end-after .ensures),
+      l .inv .2 ∙ first-step t (l .i) (a .h .count) (omega arith) fine,
     )
 
 returns-2 : tie.Need-returns-2 Inv-loop μ-loop

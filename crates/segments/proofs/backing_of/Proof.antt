@@ -6,6 +6,7 @@ use native.Mathlib.Nat.{sub-zero}
 use Rattle.rules.proofs.FirstLaws.{first-step, first-hit, first-none}
 use Rattle.rules.specs.First.{first}
 use mathlib.Core.Path.{_≡_, _∙_}
+use mathlib.Core.Bool.{true}
 use Prim.Native.Nat.{_≤_, _-_}
 use native.Mathlib.Omega.{arith}
 use borrow.Author.Needs.{needs}
@@ -23,24 +24,30 @@ loop-holds c = (omega arith, rw sub-zero)
 
 backing-in-requires : tie.Need-backing-in-requires Inv-loop μ-loop
 unfolding backsAt
-backing-in-requires c κs = rw (c .header-at .ensures) (rw (← c .before .before .is-backing-at .ensures) (c .before .if1 .taken))
+backing-in-requires c κs =
+    let hit = c .before in
+    rw (c .header-at .ensures) (rw (← hit .before .is-backing-at .ensures) (hit .if1 .taken))
 
 returns : tie.Need-returns Inv-loop μ-loop
 unfolding backingOf backer
 returns c =
-    let l = c .before .before .before .before .before .loop in
-    let a = c .before .before .before .before .before .before .before .args in
+    let header = c .before in
+    let hit = header .before in
+    let asked = hit .before in
+    let l = asked .before .before .loop in
+    let a = asked .before .before .before .before .args in
     let t = backsAt (a .f .now) (a .h) (a .a) (a .n) in
-    let e : first t 0 (a .h .count) ≡ l .i = l .inv .1 ∙ first-hit t (l .i) (a .h .count) (omega arith)
-    (rw (← c .before .before .before .is-backing-at .ensures) (c .before .before .if1 .taken)) in
-    rw (e, lt-ltb (l .i) (a .h .count) (omega arith), ← c .before .header-at .ensures) (c .backing-in .ensures)
+    let found : t (l .i) ≡ true = rw (← asked .is-backing-at .ensures) (hit .if1 .taken) in
+    let e : first t 0 (a .h .count) ≡ l .i = l .inv .1 ∙ first-hit t (l .i) (a .h .count) (omega arith) found in
+    rw (e, lt-ltb (l .i) (a .h .count) (omega arith), ← header .header-at .ensures) (c .backing-in .ensures)
 
 loop-again : tie.Need-loop-again Inv-loop μ-loop
 loop-again c =
-    let l = c .before .before .before .loop in
-    let a = c .before .before .before .before .before .args in
+    let asked = c .before in
+    let l = asked .before .before .loop in
+    let a = asked .before .before .before .before .args in
     let t = backsAt (a .f .now) (a .h) (a .a) (a .n) in
-    (omega arith, l .inv .1 ∙ first-step t (l .i) (a .h .count) (omega arith) (rw (← c .before .is-backing-at .ensures) (c .if1 .left)))
+    (omega arith, l .inv .1 ∙ first-step t (l .i) (a .h .count) (omega arith) (rw (← asked .is-backing-at .ensures) (c .if1 .left)))
 
 returns-2 : tie.Need-returns-2 Inv-loop μ-loop
 unfolding backingOf backer

@@ -24,17 +24,20 @@ loop-holds c = (omega arith, rw sub-zero)
 
 returns : tie.Need-returns Inv-loop μ-loop
 returns c =
-    let l = c .before .before .before .before .loop in
-    let a = c .before .before .before .before .before .before .args in
+    let hit = c .before in
+    let asked = hit .before in
+    let l = asked .before .before .loop in
+    let a = asked .before .before .before .before .args in
     held-at (a .f .now) (a .h) (a .write) (a .a) (a .n) (l .i) (c .header-at .result) (omega arith) (omega arith) (c .header-at .ensures)
-    (sym (c .before .before .is-holding-at .ensures) ∙ c .before .if1 .taken)
+    (sym (asked .is-holding-at .ensures) ∙ hit .if1 .taken)
 
 loop-again : tie.Need-loop-again Inv-loop μ-loop
 loop-again c =
-    let l = c .before .before .before .loop in
-    let a = c .before .before .before .before .before .args in
+    let asked = c .before in
+    let l = asked .before .before .loop in
+    let a = asked .before .before .before .before .args in
     let t = holdsAt (a .f .now) (a .h) (a .write) (a .a) (a .n) in
-    (omega arith, l .inv .1 ∙ first-step t (l .i) (a .h .count) (omega arith) (sym (c .before .is-holding-at .ensures) ∙ c .if1 .left))
+    (omega arith, l .inv .1 ∙ first-step t (l .i) (a .h .count) (omega arith) (sym (asked .is-holding-at .ensures) ∙ c .if1 .left))
 
 returns-2 : tie.Need-returns-2 Inv-loop μ-loop
 unfolding inMemory

@@ -13,16 +13,21 @@ returns c = rw (← c .before .read32 .ensures, ne-eqb _ _ (c .if1 .taken))
 returns-2 : tie.Need-returns-2
 unfolding backsAt backs headerAt
 returns-2 c =
+    let limited = c .before in
+    let offset = limited .before in
+    let held = offset .before in
+    let vaddr = held .before in
+    let filesz = vaddr .before in
+    let load = filesz .before in
     rw (
       c .both .ensures,
-      c .before .sum-within .ensures,
-      c .before .before .before .holds-range .ensures,
-      c .before .before .read643 .ensures,
-      c .before .before .before .before .read642 .ensures,
-      c .before .before .before .before .before .read64 .ensures,
-      ← c .before .before .before .before .before .before .before .read32 .ensures,
-      eq-eqb _ _
-          (c .before .before .before .before .before .before .if1 .left),
+      limited .sum-within .ensures,
+      held .holds-range .ensures,
+      offset .read643 .ensures,
+      vaddr .read642 .ensures,
+      filesz .read64 .ensures,
+      ← load .before .read32 .ensures,
+      eq-eqb _ _ (load .if1 .left),
     )
 
 pub is-backing-at-spec : {M : Type 1} → statement M

@@ -13,28 +13,37 @@ returns c = rw (← c .before .read32 .ensures, ne-eqb _ _ (c .if1 .taken))
 returns-2 : tie.Need-returns-2
 unfolding holdsAt holds headerAt
 returns-2 c =
+    let flags = c .before in
+    let asked = flags .before in
+    let held = asked .before in
+    let memsz = held .before in
+    let vaddr = memsz .before in
+    let load = vaddr .before in
     rw (
       c .both .ensures,
-      c .before .before .before .holds-range .ensures,
-      c .before .read322 .ensures,
-      c .before .before .if2 .taken,
-      c .before .before .before .before .read642 .ensures,
-      c .before .before .before .before .before .read64 .ensures,
-      ← c .before .before .before .before .before .before .before .read32 .ensures,
-      eq-eqb _ _
-          (c .before .before .before .before .before .before .if1 .left),
+      held .holds-range .ensures,
+      flags .read322 .ensures,
+      asked .if2 .taken,
+      memsz .read642 .ensures,
+      vaddr .read64 .ensures,
+      ← load .before .read32 .ensures,
+      eq-eqb _ _ (load .if1 .left),
     )
 
 returns-3 : tie.Need-returns-3
 unfolding holdsAt holds headerAt
 returns-3 c =
+    let held = c .before in
+    let memsz = held .before in
+    let vaddr = memsz .before in
+    let load = vaddr .before in
     rw (
-      c .before .holds-range .ensures,
+      held .holds-range .ensures,
       c .if2 .left,
-      c .before .before .read642 .ensures,
-      c .before .before .before .read64 .ensures,
-      ← c .before .before .before .before .before .read32 .ensures,
-      eq-eqb _ _ (c .before .before .before .before .if1 .left),
+      memsz .read642 .ensures,
+      vaddr .read64 .ensures,
+      ← load .before .read32 .ensures,
+      eq-eqb _ _ (load .if1 .left),
     )
 
 pub is-holding-at-spec : {M : Type 1} → statement M

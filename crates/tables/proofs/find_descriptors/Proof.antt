@@ -10,35 +10,31 @@ use Rattle.tables.proofs.find_descriptors.Tie as tie
 returns : tie.Need-returns
 unfolding descriptorsOf
 returns c =
-    rw (
-      ← c .before .before .before .before .before .before .entry-of .ensures,
-      ← c .before .before .before .before .before .or-zero .ensures,
-      ← c .before .before .before .before .entry-of2 .ensures,
-      ← c .before .before .before .or-zero2 .ensures,
-      ← c .before .before .table-backing .ensures,
-      c .enum-told .given .1,
-    )
+    let backed = c .before .before in
+    let bytes = backed .before in
+    let address = bytes .before in
+    rw (← address .value-of .ensures, ← bytes .value-of2 .ensures, ← backed .table-backing .ensures, c .enum-told .given .1)
 
-cast-t11 : tie.Need-cast-t11
-cast-t11 c =
-    let a = c .before .before .before .before .before .before .before .before .before .args in
-    let h = table-size (a .f .now) (a .h) (c .before .before .before .before .before .before .or-zero .result)
-    (c .before .before .before .before .or-zero2 .result) (c .before .backing .given .0 .0) (rw (← c .before .before .before .table-backing .ensures)
-    (c .before .backing .given .1)) in
+cast-t9 : tie.Need-cast-t9
+cast-t9 c =
+    let found = c .before in
+    let backed = found .before .before in
+    let bytes = backed .before in
+    let address = bytes .before in
+    let a = address .before .before .args in
+    let h = table-size (a .f .now) (a .h) (address .value-of .result) (bytes .value-of2 .result) (found .backing .given .0 .0)
+    (rw (← backed .table-backing .ensures) (found .backing .given .1)) in
     omega arith
 
 returns-2 : tie.Need-returns-2
 unfolding descriptorsOf
 returns-2 c =
-    rw (
-      ← c .before .before .before .before .before .before .before .entry-of .ensures,
-      ← c .before .before .before .before .before .before .or-zero .ensures,
-      ← c .before .before .before .before .before .entry-of2 .ensures,
-      ← c .before .before .before .before .or-zero2 .ensures,
-      ← c .before .before .before .table-backing .ensures,
-      c .before .backing .given .1,
-    )
+    let found = c .before in
+    let backed = found .before .before in
+    let bytes = backed .before in
+    let address = bytes .before in
+    rw (← address .value-of .ensures, ← bytes .value-of2 .ensures, ← backed .table-backing .ensures, found .backing .given .1)
 
 pub find-descriptors-spec : {M : Type 1} → statement M
 find-descriptors-spec =
-    tie.close (tie.spec (search needs) (search needs) (search needs) (search needs) (search needs) (search needs) (search needs) returns cast-t11 returns-2)
+    tie.close (tie.spec (search needs) (search needs) (search needs) (search needs) (search needs) returns cast-t9 returns-2)
