@@ -203,7 +203,8 @@ pub passed-of : {A : Type 0} {a : A} {o : Outcome A} → o ≡ good a → passed
 passed-of e = rw e
 
 -- the checks that pass, and the memory
-pub plain-module : (f : List ℕ) (m : Module) (bias n : ℕ) → m ≡ theModule f → headersOf f ≡ good (m .headers) → loadsCheck f (m .headers) ≡ good tt
+pub plain-module : (f : List ℕ) (m : Module) (bias n : ℕ) → m ≡ theModule f → headersOf f ≡ good (m .headers)
+    → loadsCheck f (m .headers) ≡ good tt
     → passed (dynamicOf f (m .headers)) ≡ good tt → entriesCheck baseTags f (m .dynamic) ≡ good tt
     → passed (relocationsOf f (m .headers) (m .dynamic)) ≡ good tt → relocationsCheck f m ≡ good tt
     → memoryFits (loadsEnd f (m .headers)) n bias ≡ true → faultsAt 13 (positionAt m) (badBare f m bias) (items m) ≡ good tt

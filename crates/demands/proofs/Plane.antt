@@ -39,7 +39,8 @@ over-below b (y ∷ d) [] h g x = h x
 over-below b (y ∷ d) (z ∷ s) h g zero = g 0
 over-below b (y ∷ d) (z ∷ s) h g (suc x) = over-below b d s (λ i. h (suc i)) (λ i. g (suc i)) x
 
-put-below : (b : ℕ) (d : List ℕ) (a : ℕ) (s : List ℕ) → ((x : ℕ) → getD d x 0 < b) → ((x : ℕ) → getD s x 0 < b) → (x : ℕ) → getD (put d a s) x 0 < b
+put-below : (b : ℕ) (d : List ℕ) (a : ℕ) (s : List ℕ) → ((x : ℕ) → getD d x 0 < b) → ((x : ℕ) → getD s x 0 < b) → (x : ℕ)
+    → getD (put d a s) x 0 < b
 unfolding put
 put-below b d zero s h g x = over-below b d s h g x
 put-below b [] (suc a) s h g x = h x
@@ -103,7 +104,8 @@ module _ (gs : List Global) (choices : List ℕ) (p limit : ℕ) (rising : Risin
       put-before a x T s (omega arith) ∙ tagged-in k j x (omega arith) m w)
       (eq-or-lt-of-le (le-of-suc-le-suc l))
 
-  tagged-out : (k x : ℕ) → k ≤ length gs → ((j : ℕ) → j < k → Within (globalAt gs j) x → ⊥) → getD (tagged gs choices (replicate p 0) k) x 0 ≡ 0
+  tagged-out : (k x : ℕ) → k ≤ length gs → ((j : ℕ) → j < k → Within (globalAt gs j) x → ⊥)
+      → getD (tagged gs choices (replicate p 0) k) x 0 ≡ 0
   unfolding tagged
   tagged-out zero x u out = replicate-zero p x
   tagged-out (suc k) x u out =

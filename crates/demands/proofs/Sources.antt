@@ -25,7 +25,8 @@ module _ (plane : List ℕ) (below : (x : ℕ) → getD plane x 0 < 16) where
   tagOf-small bias n (at s) =
       cond-case (λ (t : ℕ). t < 16) (leb bias s && ltb s (bias + n)) _ _ (λ q. below ((s - bias) / granule)) (λ q. omega arith)
 
-module _ (gs : List Global) (choices : List ℕ) (p limit : ℕ) (rising : Rising gs limit) (fits : limit ≤ 16 * p) (bias n : ℕ) (planed : 16 * p ≡ n) where
+module _ (gs : List Global) (choices : List ℕ) (p limit : ℕ) (rising : Rising gs limit) (fits : limit ≤ 16 * p)
+    (bias n : ℕ) (planed : 16 * p ≡ n) where
   pub tag-held : (j : ℕ) → j < length gs → (s : Source) → Holds bias (globalAt gs j) s → tagOf (planeOf gs choices p) bias n s ≡ getD choices j 0
   tag-held j l none h = absurd h
   tag-held j l (at s) h =

@@ -10,7 +10,8 @@ use lib.Dec.{leb, ltb, eqb}
 use borrow.Author.Tests.{leb-true, le-leb, ltb-true, ltb-false, le-ltb, eq-eqb}
 use Rattle.rules.specs.Outcome.{good}
 use Rattle.rules.specs.Limits.{addressLimit, granule}
-use Rattle.rules.specs.Descriptors.{Uleb, number, malformed, extend, lastLimit, ulebIn, ulebAt, Read, finished, global, globalAfter, second, descriptor, stepAt}
+use Rattle.rules.specs.Descriptors.{Uleb, number, malformed, extend, lastLimit, ulebIn, ulebAt}
+use Rattle.rules.specs.Descriptors.{Read, finished, global, globalAfter, second, descriptor, stepAt}
 use Rattle.rules.specs.declared.Cursor.{Cursor}
 use Rattle.rules.proofs.OutcomeLaws.{cond-held}
 use Rattle.laws.proofs.Checks.{cond-case, good-same}

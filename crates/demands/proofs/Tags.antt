@@ -63,7 +63,8 @@ abut-next gs limit rising i j l u e =
     (le-or-lt j i)
 
 -- choices of globals that abut differ
-choices-differ : (gs : List Global) (limit : ℕ) (choices : List ℕ) → Rising gs limit → Chosen gs choices → (i j : ℕ) → i < length gs → j < length gs
+choices-differ : (gs : List Global) (limit : ℕ) (choices : List ℕ) → Rising gs limit → Chosen gs choices → (i j : ℕ) → i < length gs
+    → j < length gs
     → Abut (globalAt gs i) (globalAt gs j) → getD choices j 0 ≡ getD choices i 0 → ⊥
 choices-differ gs limit choices rising chosen i j l u (inl e) q =
     let n = abut-next gs limit rising i j l u e in

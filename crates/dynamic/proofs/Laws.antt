@@ -24,7 +24,8 @@ module _ (f : List ℕ) (h : Headers) (one : ℕ) (e : one ≡ dynamicFrom f h 0
   unfolding dynamicOf
   dynamic-none l = let g : dynamicFrom f h 0 (h .count) ≡ one = sym (rw sub-zero at e) in rw (g, le-ltb one (h .count) l)
 
-  pub dynamic-more : (two : ℕ) → one < h .count → two ≡ dynamicFrom f h (one + 1) (h .count - (one + 1)) → two < h .count → dynamicOf f h ≡ refuse 5 two
+  pub dynamic-more : (two : ℕ) → one < h .count → two ≡ dynamicFrom f h (one + 1) (h .count - (one + 1)) → two < h .count
+      → dynamicOf f h ≡ refuse 5 two
   unfolding dynamicOf
   dynamic-more two l d m =
       let g : dynamicFrom f h 0 (h .count) ≡ one = sym (rw sub-zero at e) in

@@ -37,7 +37,8 @@ pub cond-case : {A : Type 0} (P : A → Type 0) (b : Bool) (x y : A) → (b ≡ 
 cond-case P true x y f g = f refl
 cond-case P false x y f g = g refl
 
-pub cond-both : {A : Type 0} (R : A → A → Type 0) (b : Bool) (x y v w : A) → (b ≡ true → R x v) → (b ≡ false → R y w) → R (cond b x y) (cond b v w)
+pub cond-both : {A : Type 0} (R : A → A → Type 0) (b : Bool) (x y v w : A) → (b ≡ true → R x v) → (b ≡ false → R y w)
+    → R (cond b x y) (cond b v w)
 cond-both R true x y v w f g = f refl
 cond-both R false x y v w f g = g refl
 

@@ -13,7 +13,8 @@ use borrow.Author.Tests.{eqb-true, eqb-false, leb-true}
 use Rattle.rules.specs.Outcome.{Outcome, good, bad, andThen, refusal}
 use Rattle.rules.specs.Limits.{granule, globalLimit, addressLimit}
 use Rattle.rules.specs.Segments.{loadsCheck, loadsEnd, inMemory}
-use Rattle.rules.specs.Descriptors.{Uleb, number, malformed, Read, finished, global, ulebAt, globalAfter, second, descriptor, stepAt, onGlobal, globalsFrom, globalsOf, descriptorTable, tableStart}
+use Rattle.rules.specs.Descriptors.{Uleb, number, malformed, Read, finished, global, ulebAt, globalAfter}
+use Rattle.rules.specs.Descriptors.{second, descriptor, stepAt, onGlobal, globalsFrom, globalsOf, descriptorTable, tableStart}
 use Rattle.rules.specs.Choices.{endOf, globalAt}
 use Rattle.rules.specs.declared.Headers.{Headers}
 use Rattle.rules.specs.declared.Descriptors.{Descriptors}
@@ -40,7 +41,14 @@ global-next : (index end distance granules next : ℕ) (r : Read) → 1 ≤ gran
 unfolding globalAfter
 global-next index end distance granules next r l h =
     let q = cond-held _ (leb (end + granule * distance + granule * granules) addressLimit) _ h in
-    good-same (λ r. Next end r) _ r (q .1) (record { starts = omega arith; aligned = omega arith; filled = l; ends = refl; limited = leb-true (end + granule * distance + granule * granules) addressLimit (q .0) })
+    good-same (λ r. Next end r) _ r (q .1)
+    (record {
+      starts = omega arith;
+      aligned = omega arith;
+      filled = l;
+      ends = refl;
+      limited = leb-true (end + granule * distance + granule * granules) addressLimit (q .0);
+    })
 
 second-next : (index end distance : ℕ) (u : Uleb) (r : Read) → second index end distance u ≡ good r → Next end r
 unfolding second
@@ -51,7 +59,8 @@ descriptor-next : (index : ℕ) (s : List ℕ) (end : ℕ) (u : Uleb) (r : Read)
 unfolding descriptor
 descriptor-next index s end (number v next) r h = go (eqb (v % 8) 0) refl h
   where
-    go : (b : Bool) → eqb (v % 8) 0 ≡ b → cond b (second index end (v / 8) (ulebAt s next)) (globalAfter index end (v / 8) (v % 8) next) ≡ good r → Next end r
+    go : (b : Bool) → eqb (v % 8) 0 ≡ b
+        → cond b (second index end (v / 8) (ulebAt s next)) (globalAfter index end (v / 8) (v % 8) next) ≡ good r → Next end r
     go true e h = second-next index end (v / 8) (ulebAt s next) r h
     go false e h =
         let ne = eqb-false (v % 8) 0 e in

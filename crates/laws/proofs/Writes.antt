@@ -88,7 +88,8 @@ module _ (live : ℕ → Bool) (place : ℕ → ℕ) (m : List ℕ) (from : ℕ)
       (λ q. h)
 
   -- a byte of a word, where the places are apart
-  pub writes-at : (w : ℕ → ℕ) (n : ℕ) → Apart live place (length m) from n → (k j : ℕ) → from ≤ k → k < from + n → live k ≡ true → j < 8
+  pub writes-at : (w : ℕ → ℕ) (n : ℕ) → Apart live place (length m) from n → (k j : ℕ) → from ≤ k → k < from + n
+      → live k ≡ true → j < 8
       → getD (writes live place w m from n) (place k + j) 0 ≡ getD (bytesOf 8 (w k)) j 0
   unfolding writes putWord
   writes-at w zero a k j g h l b = absurd (omega arith)
@@ -158,7 +159,8 @@ pub bare-byte : (x : ℕ) → x < 2 ^ 48 → getD (bytesOf 8 x) 7 0 ≡ 0
 bare-byte x h = omega arith
 
 -- the number that a word's bytes stand for
-pub le-bytes : (n w : ℕ) (s : List ℕ) (at : ℕ) → w < 256 ^ n → ((j : ℕ) → j < n → getD s (at + j) 0 ≡ getD (bytesOf n w) j 0) → le n s at ≡ w
+pub le-bytes : (n w : ℕ) (s : List ℕ) (at : ℕ) → w < 256 ^ n → ((j : ℕ) → j < n → getD s (at + j) 0 ≡ getD (bytesOf n w) j 0)
+    → le n s at ≡ w
 unfolding le
 le-bytes zero w s at h e = omega arith
 le-bytes (suc n) w s at h e =

@@ -57,7 +57,8 @@ le-same (suc n) s t at e =
     rw (b, q)
 
 -- the bytes at a place, before its own write
-pub place-kept : (live : ℕ → Bool) (place w : ℕ → ℕ) (m : List ℕ) (n : ℕ) → Apart live place (length m) 0 n → (k : ℕ) → k < n → live k ≡ true
+pub place-kept : (live : ℕ → Bool) (place w : ℕ → ℕ) (m : List ℕ) (n : ℕ) → Apart live place (length m) 0 n → (k : ℕ) → k < n
+    → live k ≡ true
     → le 8 (writes live place w m 0 k) (place k) ≡ le 8 m (place k)
 place-kept live place w m n a k l t =
     le-same 8 (writes live place w m 0 k) m (place k) (λ j b. writes-other live place m 0 w k (place k + j) (λ i g h s.

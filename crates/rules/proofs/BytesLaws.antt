@@ -4,7 +4,8 @@ use Prim.Native.Nat.{ℕ, zero, suc, _+_, _*_, _^_, _-_, _≤_, _<_, min}
 use mathlib.Core.List.{List}
 use mathlib.Core.Path.{_≡_, refl, sym, _∙_}
 use mathlib.Core.Bool.{Bool, true, false}
-use native.Mathlib.Nat.{pow-le-pow-right, mul-zero, add-zero, zero-add, suc-add, add-suc, mul-add, mul-assoc, mul-left-comm, one-mul, pow-zero, pow-suc, add-assoc}
+use native.Mathlib.Nat.{pow-le-pow-right, mul-zero, add-zero, zero-add, suc-add, add-suc}
+use native.Mathlib.Nat.{mul-add, mul-assoc, mul-left-comm, one-mul, pow-zero, pow-suc, add-assoc}
 use native.Mathlib.Numerals.{add-one}
 use native.Mathlib.Omega.{arith}
 use lib.Dec.{leb}
@@ -26,7 +27,8 @@ le-past zero s at h = refl
 le-past (suc n) s at h = let e : getD s at 0 ≡ 0 = List·getD-eq-default s 0 h in rw (e, le-past n s (at + 1) (omega arith))
 
 -- one byte more at the low end
-pub le-more : (s : List ℕ) (end v : ℕ) → 0 < end → end ≤ length s → v ≡ le (length s - end) s end → v * 256 + getD s (end - 1) 0 ≡ le (length s - (end - 1)) s (end - 1)
+pub le-more : (s : List ℕ) (end v : ℕ) → 0 < end → end ≤ length s → v ≡ le (length s - end) s end
+    → v * 256 + getD s (end - 1) 0 ≡ le (length s - (end - 1)) s (end - 1)
 unfolding le
 le-more s end v h l e =
     let k : length s - (end - 1) ≡ suc (length s - end) = omega arith in
@@ -44,7 +46,8 @@ le-left s at h c =
     let y : 256 ^ n * le m s (at + n) ≡ 0 = rw (z, mul-zero) in
     omega arith
 
-pub le-cut : (s : List ℕ) (at end : ℕ) → end ≤ length s → min at (length s) ≤ end → end ≤ at → length s < at + 8 → le (length s - end) s end ≡ le 8 s at
+pub le-cut : (s : List ℕ) (at end : ℕ) → end ≤ length s → min at (length s) ≤ end → end ≤ at → length s < at + 8
+    → le (length s - end) s end ≡ le 8 s at
 le-cut s at end l m u c = go (leb (length s) at) refl
   where
     go : (b : Bool) → leb (length s) at ≡ b → le (length s - end) s end ≡ le 8 s at

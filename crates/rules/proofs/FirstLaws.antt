@@ -63,7 +63,9 @@ module _ (f : ℕ → Bool) where
   pub first-end : (k i : ℕ) → ((j : ℕ) → i ≤ j → j < i + k → f j ≡ false) → first f i k ≡ i + k
   unfolding first
   first-end zero i h = omega arith
-  first-end (suc k) i h = let e : f i ≡ false = h i (omega arith) (omega arith) in rw e (first-end k (i + 1) (λ j a b. h j (omega arith) (omega arith)) ∙ omega arith)
+  first-end (suc k) i h =
+      let e : f i ≡ false = h i (omega arith) (omega arith) in
+      rw e (first-end k (i + 1) (λ j a b. h j (omega arith) (omega arith)) ∙ omega arith)
 
   -- a hit makes some
   pub some-hit : (n i : ℕ) → i < n → first f 0 n ≡ i → someBelow f n ≡ true
@@ -79,9 +81,11 @@ module _ (f : ℕ → Bool) where
   first-more (suc k) i = go (f i) (first-more k (i + 1))
     where
       go : (b : Bool)
-          → first f (i + 1) (suc k) ≡ cond (f (i + 1 + k)) (first f (i + 1) k) (cond (eqb (first f (i + 1) k) (i + 1 + k)) (i + 1 + k + 1) (first f (i + 1) k))
+          → first f (i + 1) (suc k)
+          ≡ cond (f (i + 1 + k)) (first f (i + 1) k) (cond (eqb (first f (i + 1) k) (i + 1 + k)) (i + 1 + k + 1) (first f (i + 1) k))
           → cond b i (first f (i + 1) (suc k))
-          ≡ cond (f (i + suc k)) (cond b i (first f (i + 1) k)) (cond (eqb (cond b i (first f (i + 1) k)) (i + suc k)) (i + suc k + 1) (cond b i (first f (i + 1) k)))
+          ≡ cond (f (i + suc k)) (cond b i (first f (i + 1) k))
+          (cond (eqb (cond b i (first f (i + 1) k)) (i + suc k)) (i + suc k + 1) (cond b i (first f (i + 1) k)))
       go true h = rw (ne-eqb i (i + suc k) (λ q. omega arith)) (same (f (i + suc k)))
         where
           same : (b : Bool) → i ≡ cond b i i

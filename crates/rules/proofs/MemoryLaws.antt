@@ -43,7 +43,8 @@ unfolding over
 over-part zero d [] h = sym (over-nil d)
 over-part zero d (y ∷ s) h = absurd (not-suc-le-zero h)
 over-part (suc k) [] s h = refl
-over-part (suc k) (x ∷ d) [] h = ap (λ (t : List ℕ). x ∷ t) (ap (λ (t : List ℕ). t ++ drop k d) (sym (over-nil (take k d))) ∙ over-part k d [] zero-le ∙ over-nil d)
+over-part (suc k) (x ∷ d) [] h =
+    ap (λ (t : List ℕ). x ∷ t) (ap (λ (t : List ℕ). t ++ drop k d) (sym (over-nil (take k d))) ∙ over-part k d [] zero-le ∙ over-nil d)
 over-part (suc k) (x ∷ d) (y ∷ s) h = ap (λ (t : List ℕ). y ∷ t) (over-part k d s (le-of-suc-le-suc h))
 
 pub put-part : (a k : ℕ) (d s : List ℕ) → length s ≤ k → take a d ++ (over (take k (drop a d)) s ++ drop k (drop a d)) ≡ put d a s

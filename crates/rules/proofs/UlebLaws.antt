@@ -28,7 +28,8 @@ above-extend low scale digit (number v next) = ap (λ (x : ℕ). number x next) 
 above-extend low scale digit malformed = refl
 
 -- the scale with so many bytes left: a digit and the scale after it stay below 2^64
-pub room : (left scale d : ℕ) → 1 < left → left ≤ 10 → scale ≡ 128 ^ (10 - left) → d < 128 → (scale * d + scale ≤ scale * 128) × (scale * 128 ≤ 2 ^ 63)
+pub room : (left scale d : ℕ) → 1 < left → left ≤ 10 → scale ≡ 128 ^ (10 - left) → d < 128
+    → (scale * d + scale ≤ scale * 128) × (scale * 128 ≤ 2 ^ 63)
 room left scale d l m e h =
     let below : 10 - left ≤ 8 = omega arith in
     let small : 128 ^ (10 - left) ≤ 128 ^ 8 = pow-le-pow-right {n = 128} (omega arith) below in
@@ -62,7 +63,8 @@ module _ (s : List ℕ) (at : ℕ) where
   at-last (suc (suc n)) l h b = simp (lt-ltb _ _ h, lt-ltb _ _ b)
 
   -- a byte with another after it
-  pub at-more : (left : ℕ) → 1 < left → at < length s → 128 ≤ getD s at 0 → ulebIn left s at ≡ extend (getD s at 0 % 128) (ulebIn (left - 1) s (at + 1))
+  pub at-more : (left : ℕ) → 1 < left → at < length s → 128 ≤ getD s at 0
+      → ulebIn left s at ≡ extend (getD s at 0 % 128) (ulebIn (left - 1) s (at + 1))
   unfolding ulebIn
   at-more zero l h b = absurd (omega arith)
   at-more (suc n) l h b = simp (lt-ltb _ _ h, le-ltb _ _ b, sub-one)

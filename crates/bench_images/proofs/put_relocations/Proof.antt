@@ -15,4 +15,6 @@ abbrev μ-loop : tie.MeasureT-loop
 
 pub put-relocations-spec : {M : Type 1} → statement M
 put-relocations-spec =
-    tie.close (tie.spec Inv-loop μ-loop (search needs) (search needs) (search needs) (search needs) (search needs) (search needs) (search needs) (search needs) (search needs) (λ c. search needs))
+    tie.close
+    (tie.spec Inv-loop μ-loop (search needs) (search needs) (search needs) (search needs) (search needs) (search needs) (search needs)
+    (search needs) (search needs) (λ c. search needs))

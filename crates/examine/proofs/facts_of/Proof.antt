@@ -7,7 +7,20 @@ use Rattle.examine.proofs.facts_of.Tie as tie
 
 returns : tie.Need-returns
 unfolding factsOf
-returns c = rw (c .before .before .before .before .before .before .before .before .pre, c .switch-of2 .ensures, c .before .entry-of3 .ensures, c .before .before .switch-of .ensures, c .before .before .before .entry-of2 .ensures, c .before .before .before .before .mode-of .ensures, c .before .before .before .before .before .entry-of .ensures)
+returns c =
+    let stack = c .before in
+    let heap = stack .before .before in
+    let mode = heap .before .before in
+    let S = mode .before .before .before in
+    rw (
+      S .pre,
+      c .switch-of2 .ensures,
+      stack .entry-of3 .ensures,
+      stack .before .switch-of .ensures,
+      heap .entry-of2 .ensures,
+      heap .before .mode-of .ensures,
+      mode .entry-of .ensures,
+    )
 
 pub facts-of-spec : {M : Type 1} → statement M
 facts-of-spec =

@@ -55,4 +55,6 @@ returns-2 c = let n = c .before .loop .inv .2 in rw n
 
 pub print-globals-spec : {M : Type 1} → statement M
 print-globals-spec =
-    tie.close (tie.spec Inv-loop μ-loop (search needs) (search needs) (search needs) loop-holds (search needs) (search needs) (search needs) returns print-global-requires add-i (search needs) loop-again returns-2)
+    tie.close
+    (tie.spec Inv-loop μ-loop (search needs) (search needs) (search needs) loop-holds (search needs) (search needs) (search needs) returns
+    print-global-requires add-i (search needs) loop-again returns-2)

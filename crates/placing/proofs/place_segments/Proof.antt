@@ -37,4 +37,6 @@ returns c =
 
 pub place-segments-spec : {M : Type 1} → statement M
 place-segments-spec =
-    tie.close (tie.spec Inv-loop μ-loop (search needs) loop-holds (search needs) (search needs) (search needs) (search needs) loop-again (search needs) returns)
+    tie.close
+    (tie.spec Inv-loop μ-loop (search needs) loop-holds (search needs) (search needs) (search needs) (search needs) loop-again (search needs)
+    returns)

@@ -11,7 +11,8 @@ use Rattle.reads.proofs.cut64.Statement.{statement}
 use Rattle.reads.proofs.cut64.Tie as tie
 
 abbrev Inv-loop : tie.InvT-loop
-Inv-loop s at value₀ end₀ value end = (end ≤ length s) × (min at (length s) ≤ end) × (value ≡ le (length s - end) s end) × (value < 256 ^ (length s - end))
+Inv-loop s at value₀ end₀ value end =
+    (end ≤ length s) × (min at (length s) ≤ end) × (value ≡ le (length s - end) s end) × (value < 256 ^ (length s - end))
 
 abbrev μ-loop : tie.MeasureT-loop
 μ-loop s at value₀ end₀ value end = end

@@ -60,4 +60,6 @@ returns-2 c =
 
 pub backing-of-spec : {M : Type 1} → statement M
 backing-of-spec =
-    tie.close (tie.spec Inv-loop μ-loop loop-holds (search needs) (search needs) backing-in-requires returns (search needs) (search needs) loop-again returns-2)
+    tie.close
+    (tie.spec Inv-loop μ-loop loop-holds (search needs) (search needs) backing-in-requires returns (search needs) (search needs) loop-again
+    returns-2)

@@ -20,7 +20,10 @@ loop-holds : tie.Need-loop-holds Inv-loop μ-loop
 loop-holds c = (search needs, search needs, search needs, search needs, start _)
 
 returns : tie.Need-returns Inv-loop μ-loop
-returns c = let l = c .before .before .loop in let s = c .before .before .before .before .args .s .now in rw (l .inv .4, at-end s (l .at) (l .left) (omega arith))
+returns c =
+    let l = c .before .before .loop in
+    let s = c .before .before .before .before .args .s .now in
+    rw (l .inv .4, at-end s (l .at) (l .left) (omega arith))
 
 byte-requires : tie.Need-byte-requires Inv-loop μ-loop
 byte-requires c κs = search needs
@@ -29,10 +32,14 @@ wide-requires : tie.Need-wide-requires Inv-loop μ-loop
 wide-requires c κs = search needs
 
 mul-value : tie.Need-mul-value Inv-loop μ-loop
-mul-value c = let l = c .before .before .before .before .loop in omega (arith, room (l .left) (l .scale) (c .wide .result) (omega arith) (omega arith) (l .inv .2) (omega arith))
+mul-value c =
+    let l = c .before .before .before .before .loop in
+    omega (arith, room (l .left) (l .scale) (c .wide .result) (omega arith) (omega arith) (l .inv .2) (omega arith))
 
 add-value : tie.Need-add-value Inv-loop μ-loop
-add-value c = let l = c .before .before .before .before .loop in omega (arith, room (l .left) (l .scale) (c .wide .result) (omega arith) (omega arith) (l .inv .2) (omega arith))
+add-value c =
+    let l = c .before .before .before .before .loop in
+    omega (arith, room (l .left) (l .scale) (c .wide .result) (omega arith) (omega arith) (l .inv .2) (omega arith))
 
 add-at : tie.Need-add-at Inv-loop μ-loop
 add-at c = search needs
@@ -44,7 +51,9 @@ returns-2 c =
     rw (c .before .wide .ensures, c .before .before .byte .ensures, l .inv .4, at-last s (l .at) (l .left) (omega arith) (omega arith) (omega arith))
 
 mul-scale : tie.Need-mul-scale Inv-loop μ-loop
-mul-scale c = let l = c .before .before .before .before .before .loop in omega (arith, room (l .left) (l .scale) 0 (omega arith) (omega arith) (l .inv .2) (omega arith))
+mul-scale c =
+    let l = c .before .before .before .before .before .loop in
+    omega (arith, room (l .left) (l .scale) 0 (omega arith) (omega arith) (l .inv .2) (omega arith))
 
 sub-left : tie.Need-sub-left Inv-loop μ-loop
 sub-left c = search needs
@@ -60,11 +69,20 @@ loop-again c =
       search needs,
       scaled (l .left) (l .scale) (omega arith) (omega arith) (l .inv .2),
       omega (arith, room (l .left) (l .scale) (c .before .wide .result) (omega arith) (omega arith) (l .inv .2) (omega arith)),
-      rw (c .before .wide .ensures, c .before .before .byte .ensures, l .inv .4, at-more s (l .at) (l .left) (omega arith) (omega arith) (omega arith), above-extend),
+      rw (
+        c .before .wide .ensures,
+        c .before .before .byte .ensures,
+        l .inv .4,
+        at-more s (l .at) (l .left) (omega arith) (omega arith) (omega arith),
+        above-extend,
+      ),
     )
 
 returns-3 : tie.Need-returns-3 Inv-loop μ-loop
-returns-3 c = let l = c .before .before .loop in let s = c .before .before .before .before .args .s .now in rw (l .inv .4, at-end s (l .at) (l .left) (omega arith))
+returns-3 c =
+    let l = c .before .before .loop in
+    let s = c .before .before .before .before .args .s .now in
+    rw (l .inv .4, at-end s (l .at) (l .left) (omega arith))
 
 byte-requires-2 : tie.Need-byte-requires-2 Inv-loop μ-loop
 byte-requires-2 c κs = search needs
@@ -80,10 +98,16 @@ wide-requires-2 : tie.Need-wide-requires-2 Inv-loop μ-loop
 wide-requires-2 c κs = search needs
 
 mul-t18 : tie.Need-mul-t18 Inv-loop μ-loop
-mul-t18 c = let l = c .before .before .before .before .before .loop in omega (arith, tenth (l .left) (l .scale) (c .wide2 .result) (omega arith) (l .inv .2) (omega arith))
+mul-t18 c =
+    let l = c .before .before .before .before .before .loop in
+    omega (arith, tenth (l .left) (l .scale) (c .wide2 .result) (omega arith) (l .inv .2) (omega arith))
 
 add-t19 : tie.Need-add-t19 Inv-loop μ-loop
-add-t19 c = let l = c .before .before .before .before .before .loop in omega (arith, tenth (l .left) (l .scale) (c .wide2 .result) (omega arith) (l .inv .2) (omega arith), tenth (l .left) (l .scale) 1 (omega arith) (l .inv .2) (omega arith))
+add-t19 c =
+    let l = c .before .before .before .before .before .loop in
+    let digit = tenth (l .left) (l .scale) (c .wide2 .result) (omega arith) (l .inv .2) (omega arith) in
+    let one = tenth (l .left) (l .scale) 1 (omega arith) (l .inv .2) (omega arith) in
+    omega (arith, digit, one)
 
 add-t14 : tie.Need-add-t14 Inv-loop μ-loop
 add-t14 c = search needs

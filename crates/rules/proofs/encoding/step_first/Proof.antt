@@ -36,14 +36,17 @@ global-after-requires c κs = search needs
 
 returns-2 : tie.Need-returns-2
 unfolding descriptor
-returns-2 c = rw (c .step-second .ensures, ← c .before .before .before .before .before .read-uleb .ensures, c .before .before .before .u .given .1, eq-eqb _ _ (c .before .if1 .taken))
+returns-2 c =
+    let U = c .before .before .before in
+    rw (c .step-second .ensures, ← U .before .before .read-uleb .ensures, U .u .given .1, eq-eqb _ _ (c .before .if1 .taken))
 
 returns-3 : tie.Need-returns-3
 unfolding descriptor
 returns-3 c =
-    let v = c .before .before .before .u .given .0 .0 in
+    let U = c .before .before .before in
+    let v = U .u .given .0 .0 in
     let size : v % 8 - 1 + 1 ≡ v % 8 = omega arith in
-    rw (c .global-after .ensures, ← c .before .before .before .before .before .read-uleb .ensures, c .before .before .before .u .given .1, ne-eqb _ _ (c .before .if1 .left), size)
+    rw (c .global-after .ensures, ← U .before .before .read-uleb .ensures, U .u .given .1, ne-eqb _ _ (c .before .if1 .left), size)
 
 pub step-first-spec : {M : Type 1} → statement M
 step-first-spec =
