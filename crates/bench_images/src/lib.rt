@@ -8,16 +8,22 @@ use rules::DT_RELA;
 use rules::DT_RELAENT;
 use rules::DT_RELASZ;
 
-// Where the parts of an image stand, in the file and in memory. PLACE is that of a first relocation.
+// Where the parts of an image stand, in the file and in memory.
 const HEADERS: usize = 64;
 
 const ENTRIES: usize = 256;
 
 const DESCRIPTORS: usize = 384;
 
-pub const PLACE: usize = 448;
-
 const RELA: usize = 512;
+
+// The place of the sheet's relocation, in its file part.
+pub const SHEET_PLACE: usize = 448;
+
+// The file parts of the sheet's image and of one with room for 1,025 relocations.
+const SHEET_FILE: u64 = 1024;
+
+pub const LONG_FILE: u32 = 25600;
 
 // A program header's kind, and its flags in the high half: PT_LOAD, readable and writable, and PT_DYNAMIC.
 const WRITABLE_LOAD: u64 = 0x600000001;
@@ -37,7 +43,7 @@ fn put_dynamic(f: &mut [u8], i: u8, tag: u64, value: u64)
 }
 
 // A RELATIVE relocation by its index: a place and an addend.
-pub fn put_relative(f: &mut [u8], i: u32, place: u64, addend: u64)
+fn put_relative(f: &mut [u8], i: u32, place: u64, addend: u64)
     ensures { λ _. ⌜ now (f .exit) ≡ putWord (putWord (putWord (now (f .entry)) (512 + 24 * i) place) (512 + 24 * i + 8) 1027) (512 + 24 * i + 16) addend ⌝ }
 {
     let at = RELA + 24 * (i as usize);
@@ -82,7 +88,7 @@ fn put_table(f: &mut [u8], entries: u32) {
 }
 
 // An image of the sheet's three globals, all but the relocations themselves.
-pub fn put_image(f: &mut [u8], filesz: u64, memsz: u64, entries: u32) {
+fn put_image(f: &mut [u8], filesz: u64, memsz: u64, entries: u32) {
     put_file_header(f);
     put_header(f, 0, WRITABLE_LOAD, 0, filesz, memsz);
     put_header(f, 1, PT_DYNAMIC, ENTRIES as u64, 96, 96);
@@ -91,8 +97,21 @@ pub fn put_image(f: &mut [u8], filesz: u64, memsz: u64, entries: u32) {
 }
 
 // So many relocations of one addend, at places that follow one another from a first.
-pub fn put_relocations(f: &mut [u8], entries: u32, place: u32, addend: u64) {
+fn put_relocations(f: &mut [u8], entries: u32, place: u32, addend: u64) {
     for i in 0..entries {
         put_relative(f, i, place as u64 + 8 * (i as u64), addend);
     }
+}
+
+// The sheet's image with one relocation, of an addend and the place's bytes, over zeros.
+pub fn put_sheet(f: &mut [u8], memsz: u64, addend: u64, loaded: u64) {
+    put_image(f, SHEET_FILE, memsz, 1);
+    put_relative(f, 0, SHEET_PLACE as u64, addend);
+    memory::put64(f, SHEET_PLACE, loaded);
+}
+
+// An image with so many relocations, over zeros; their places come after the file part.
+pub fn put_long(f: &mut [u8], memsz: u64, entries: u32, addend: u64) {
+    put_image(f, LONG_FILE as u64, memsz, entries);
+    put_relocations(f, entries, LONG_FILE, addend);
 }

@@ -1,0 +1,87 @@
+// The lines that the bench writes: of a load, of a number and of a descriptor.
+use libc::STDOUT_FILENO;
+use rules::Cursor;
+use rules::Facts;
+use rules::Refusal;
+use rules::Step;
+use rules::encoding::Uleb;
+
+fn end_line() {
+    io::write_all(STDOUT_FILENO, b"\n");
+}
+
+// A number, and the space after it.
+fn print_number(n: u64) {
+    io::print_decimal(STDOUT_FILENO, n);
+    io::write_all(STDOUT_FILENO, b" ");
+}
+
+// A refusal's number and position.
+pub fn print_refusal(r: Refusal) {
+    io::write_all(STDOUT_FILENO, b"refused ");
+    print_number(r.number as u64);
+    io::print_decimal(STDOUT_FILENO, r.position);
+    end_line();
+}
+
+// The globals, the words relocated and one of them.
+pub fn print_taken(facts: Facts, word: u64) {
+    io::write_all(STDOUT_FILENO, b"taken ");
+    print_number(facts.globals as u64);
+    print_number(facts.words as u64);
+    io::print_hex(STDOUT_FILENO, word, 16);
+    end_line();
+}
+
+// The number at the front of a table, and the position after it.
+fn run_number(name: &[u8], table: &[u8]) {
+    io::write_all(STDOUT_FILENO, name);
+    let u = rules::encoding::read_uleb(table, 0);
+    let Uleb::Number(v, next) = u else {
+        io::write_all(STDOUT_FILENO, b"malformed\n");
+        return;
+    };
+    print_number(v);
+    io::print_decimal(STDOUT_FILENO, next as u64);
+    end_line();
+}
+
+// The descriptor at the front of a table.
+fn run_step(name: &[u8], table: &[u8]) {
+    io::write_all(STDOUT_FILENO, name);
+    let c = Cursor {
+        position: 0,
+        end: 0,
+    };
+    let step = c.step(table, 0);
+    match step {
+        Step::Finished => {
+            io::write_all(STDOUT_FILENO, b"finished\n");
+        }
+        Step::Global(g, next) => {
+            print_number(g.start);
+            print_number(g.granules);
+            io::print_decimal(STDOUT_FILENO, next.position);
+            end_line();
+        }
+        Step::Refused(r) => {
+            print_refusal(r);
+        }
+    }
+}
+
+// Numbers of ten bytes.
+pub fn run_numbers() {
+    run_number(
+        b"nine FF, 01: ",
+        b"\xff\xff\xff\xff\xff\xff\xff\xff\xff\x01",
+    );
+    run_step(
+        b"as first number: ",
+        b"\xff\xff\xff\xff\xff\xff\xff\xff\xff\x01",
+    );
+    run_step(
+        b"as second number: ",
+        b"\x00\xff\xff\xff\xff\xff\xff\xff\xff\xff\x01",
+    );
+}

@@ -1,0 +1,75 @@
+// Loads an image of the bench sheet, and writes a line for it.
+use bench_images::SHEET_PLACE;
+use libc::STDOUT_FILENO;
+use rules::Answer;
+
+// Bytes of an image, whose file part is its front.
+const FILE: usize = 25600;
+
+// The memory of the sheet's image.
+const SHEET_MEMORY: usize = 0x2000;
+
+const SHEET_PLANE: usize = 0x200;
+
+// That of an image with room for 1,025 relocations.
+const LONG_MEMORY: usize = 0x9000;
+
+const LONG_PLANE: usize = 0x900;
+
+// The place of the entry of index 1,023.
+const LONG_LAST: usize = 33784;
+
+// The bias of the sheet.
+pub const BIAS: u64 = 0x40000000;
+
+// Loads an image; writes the globals, the words relocated and the word at a place, or the refusal.
+fn run_load(
+    f: &[u8],
+    bias: u64,
+    memory: &mut [u8],
+    plane: &mut [u8],
+    choices: &[u8],
+    place: usize,
+) {
+    let answer = load::load_module(f, bias, memory, plane, choices);
+    match answer {
+        Answer::Taken(facts) => {
+            bench_report::print_taken(facts, reads::read64(memory, place));
+        }
+        Answer::Refused(r) => {
+            bench_report::print_refusal(r);
+        }
+    }
+}
+
+// The sheet's image with one relocation and any choices.
+pub fn run_choices(name: &[u8], bias: u64, addend: u64, loaded: u64, choices: &[u8]) {
+    let mut f = [0u8; FILE];
+    let mut memory = [0u8; SHEET_MEMORY];
+    let mut plane = [0u8; SHEET_PLANE];
+    bench_images::put_sheet(&mut f, SHEET_MEMORY as u64, addend, loaded);
+    io::write_all(STDOUT_FILENO, name);
+    run_load(&f, bias, &mut memory, &mut plane, choices, SHEET_PLACE);
+}
+
+// With the sheet's tags.
+pub fn run_sheet(name: &[u8], bias: u64, addend: u64, loaded: u64) {
+    run_choices(name, bias, addend, loaded, b"\x03\x09\x05");
+}
+
+// An image with so many relocations; the word is that of the entry of index 1,023.
+pub fn run_long(name: &[u8], entries: u32) {
+    let mut f = [0u8; FILE];
+    let mut memory = [0u8; LONG_MEMORY];
+    let mut plane = [0u8; LONG_PLANE];
+    bench_images::put_long(&mut f, LONG_MEMORY as u64, entries, 0x10c0);
+    io::write_all(STDOUT_FILENO, name);
+    run_load(
+        &f,
+        BIAS,
+        &mut memory,
+        &mut plane,
+        b"\x03\x09\x05",
+        LONG_LAST,
+    );
+}
