@@ -20,7 +20,7 @@ use Rattle.demands.specs.Calls.{Buffers, Call, Declined}
 use Rattle.demands.specs.Demands.{Counted}
 use Rattle.demands.proofs.Refusals.{examined-facts}
 use Rattle.demands.proofs.Calls.{calls}
-use Rattle.hagolstan.specs.Packed.{packed, packedRefusal, modeNumber, switchNumber, factsNumber}
+use Rattle.packing.specs.Packed.{packed, packedRefusal, modeNumber, switchNumber, factsNumber}
 use Rattle.hagolstan.specs.Exported.{Told, ExportClaim, FactsTold, FactsClaim}
 
 -- every number of a list is from 1 to 255

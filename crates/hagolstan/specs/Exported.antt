@@ -8,7 +8,7 @@ use Rattle.rules.specs.Examine.{examinedOf}
 use Rattle.rules.specs.declared.Refusal.{Refusal}
 use Rattle.rules.specs.declared.Facts.{Facts}
 use Rattle.demands.specs.Calls.{Buffers, Call, Declined, Accepted}
-use Rattle.hagolstan.specs.Packed.{packed, modeNumber, switchNumber, packedFacts}
+use Rattle.packing.specs.Packed.{packed, modeNumber, switchNumber, packedFacts}
 
 -- what the contract of `hagolstan_load` says: a call of the load, and its answer as one number
 pub record Exported (f : List ℕ) (bias : ℕ) (choices : List ℕ) (lent left : Buffers) (number : ℕ) : Type 0 where

@@ -1,68 +1,13 @@
 // The calls that a C host makes.
 ghost use mathlib.Core.Path.{_≡_};
-ghost use Prim.Native.Nat.{_≤_};
 ghost use Rattle.rules.specs.Examine.{examinedOf};
-ghost use Rattle.rules.specs.Outcome.{good};
-ghost use Rattle.rules.specs.Descriptors.{global, stepAt};
-ghost use Rattle.demands.specs.Table.{positionLimit};
+ghost use Rattle.rules.specs.Descriptors.{stepAt};
 ghost use Rattle.demands.specs.Calls.{buffers};
+ghost use Rattle.packing.specs.Packed.{packed, packedFacts, stepNumber, stepWords};
 ghost use Rattle.hagolstan.specs.Exported.{Exported};
-ghost use Rattle.hagolstan.specs.Packed.{packedRefusal, packed, modeNumber, switchNumber, factsNumber, packedFacts, stepNumber, stepWords};
 use rules::Answer;
 use rules::Cursor;
-use rules::Facts;
-use rules::Global;
-use rules::Mode;
-use rules::Refusal;
 use rules::Step;
-use rules::Switch;
-
-// Where the counts stand in the facts as one number: globals from bit 8 on, words from bit 25.
-const GLOBALS_UNIT: u64 = 256;
-
-const WORDS_UNIT: u64 = 33554432;
-
-// A refusal as one number.
-fn pack_refusal(r: Refusal) -> u64
-    requires { ⌜ r .position ≤ positionLimit ⌝ }
-    ensures { λ v. ⌜ v ≡ packedRefusal r ⌝ }
-{
-    r.position * 256 + r.number as u64
-}
-
-fn mode_number(m: Mode) -> u64
-    ensures { λ v. ⌜ (v ≡ modeNumber m) × (v ≤ 2) ⌝ }
-{
-    match m {
-        Mode::Absent => 0,
-        Mode::Synchronous => 1,
-        Mode::Asynchronous => 2,
-    }
-}
-
-fn switch_number(s: Switch) -> u64
-    ensures { λ v. ⌜ (v ≡ switchNumber s) × (v ≤ 2) ⌝ }
-{
-    match s {
-        Switch::Absent => 0,
-        Switch::Off => 1,
-        Switch::On => 2,
-    }
-}
-
-fn facts_number(a: Facts) -> u64
-    ensures { λ v. ⌜ v ≡ factsNumber a ⌝ }
-{
-    let mode = a.mode;
-    let heap = a.heap;
-    let stack = a.stack;
-    1
-        + 4 * mode_number(mode)
-        + 16 * switch_number(heap)
-        + 64 * switch_number(stack)
-        + GLOBALS_UNIT * (a.globals as u64)
-        + WORDS_UNIT * (a.words as u64)
-}
 
 // Examines a file: position × 256 + refusal number, or globals × 256.
 #[no_mangle]
@@ -70,13 +15,13 @@ pub extern "C" fn hagolstan_examine(file: &[u8]) -> u64
     ensures { λ v. ⌜ v ≡ packed (examinedOf (now (file .entry))) ⌝ }
 {
     let answer = examine::examine_file(file);
-    let Answer::Taken(a) = answer else {
+    let Answer::Taken(facts) = answer else {
         let Answer::Refused(r) = answer else {
             return 0;
         };
-        return pack_refusal(r);
+        return packing::pack_refusal(r);
     };
-    (a.globals as u64) * 256
+    (facts.globals as u64) * 256
 }
 
 // The facts of a file in one number, or 0 where examine refuses it.
@@ -88,7 +33,7 @@ pub extern "C" fn hagolstan_facts(file: &[u8]) -> u64
     let Answer::Taken(a) = answer else {
         return 0;
     };
-    facts_number(a)
+    packing::facts_number(a)
 }
 
 // Loads a module: position × 256 + refusal number, with memory and plane as lent, or globals × 256.
@@ -107,19 +52,9 @@ pub extern "C" fn hagolstan_load(
         let Answer::Refused(r) = answer else {
             return 0;
         };
-        return pack_refusal(r);
+        return packing::pack_refusal(r);
     };
     (a.globals as u64) * 256
-}
-
-// The words of a global that was read: its start and granules, and the moved cursor.
-fn write_global(words: &mut [u8], g: Global, next: Cursor)
-    ensures { λ _. ⌜ now (words .exit) ≡ stepWords (good (global g next)) (now (words .entry)) ⌝ }
-{
-    memory::put64(words, 0, g.start);
-    memory::put64(words, 8, g.granules);
-    memory::put64(words, 16, next.position);
-    memory::put64(words, 24, next.end);
 }
 
 // Reads one descriptor of a table: 0 finished, 1 a global, or the refusal number. Its words go to the lent bytes.
@@ -149,6 +84,6 @@ pub extern "C" fn hagolstan_step(
         memory::put64(words, 0, r.position);
         return r.number as u64;
     };
-    write_global(words, g, next);
+    packing::write_global(words, g, next);
     1
 }

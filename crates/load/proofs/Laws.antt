@@ -1,91 +1,35 @@
--- The load by its stages: reading, checks 10 to 14, the writes, and the call.
+-- The load by its stages: the writes, and the call.
 -- Assumes nothing.
-use Prim.Native.Nat.{ℕ, _<_}
-use mathlib.Core.Path.{_≡_, refl, sym, ap, _∙_}
-use mathlib.Core.Bool.{true}
+use Prim.Native.Nat.{ℕ}
+use mathlib.Core.Path.{_≡_, sym, ap, _∙_}
 use mathlib.Core.List.{List}
 use native.Mathlib.Omega.{arith}
 use lib.ListN.{length}
-use Rattle.rules.specs.Outcome.{good, bad, andThen}
-use Rattle.rules.specs.Checks.{Check, runs, checked}
-use Rattle.rules.specs.Bytes.{le}
-use Rattle.rules.specs.First.{first, faultAt}
-use Rattle.rules.specs.Descriptors.{globalsOf}
+use Rattle.rules.specs.Outcome.{good, bad}
+use Rattle.rules.specs.Checks.{runs, checked}
 use Rattle.rules.specs.Reader.{moduleOf}
-use Rattle.rules.specs.Relocations.{placeAt, live, addendAt, targetAt, items, relocationsCheck}
+use Rattle.rules.specs.Relocations.{placeAt, live, items}
 use Rattle.rules.specs.Examine.{factsOf}
-use Rattle.rules.specs.Lending.{lendingCheck}
-use Rattle.rules.specs.Addresses.{badAddress, addressesCheck}
-use Rattle.rules.specs.Choices.{globalsIn, choicesCheck}
-use Rattle.rules.specs.Image.{imageOf, loadedAt}
-use Rattle.rules.specs.Words.{wordOf, wordAt, writes}
-use Rattle.rules.specs.Load.{callChecks, loaded, loadedMemory, loadedPlane}
-use Rattle.rules.specs.Answers.{countOf}
+use Rattle.rules.specs.Choices.{globalsIn}
+use Rattle.rules.specs.Image.{imageOf}
+use Rattle.rules.specs.Words.{wordAt}
+use Rattle.rules.specs.Load.{callChecks, loadedMemory, loadedPlane}
 use Rattle.rules.specs.declared.Refusal.{Refusal}
 use Rattle.rules.specs.declared.Module.{Module}
 use Rattle.rules.specs.declared.Facts.{Facts}
-use Rattle.rules.specs.declared.Walked.{Walked}
-use Rattle.rules.specs.declared.Checked.the-variants as answer
 use Rattle.rules.proofs.OutcomeLaws.{andThen-good}
-use Rattle.rules.proofs.ChecksLaws.{checked-then}
 use Rattle.laws.proofs.Checks.{andThen-bad}
 use Rattle.laws.proofs.Places.{address-ranged}
-use Rattle.laws.proofs.Writes.{Apart, writes-same}
+use Rattle.laws.proofs.Writes.{writes-same}
 use Rattle.demands.specs.Calls.{Buffers, loadInto, Call}
 use Rattle.demands.proofs.Exactly.{Passes, checks-passes, passes-taken, load-unread, load-refused}
 use Rattle.demands.proofs.Reading.{module-reads}
 use Rattle.demands.proofs.Image.{image-size, image-holds}
 use Rattle.demands.proofs.Standing.{passes-stands}
-use Rattle.relocations.specs.Walk.{walkOf}
-use Rattle.relocations.proofs.Laws.{Walks, walk-found, walk-refused}
-use Rattle.placing.specs.Words.{wordIn, relocated}
+use Rattle.placing.specs.Words.{wordIn}
 use Rattle.placing.proofs.WriteLaws.{relocated-writes}
 use Rattle.tags.proofs.Laws.{plane-tagged}
-use Rattle.load.specs.Stages.{lentIn, writtenPlane, writtenMemory}
-
--- ---- reading
-
--- a module's globals are counted
-pub module-count : (f : List ℕ) (m : Module) → moduleOf f ≡ good m → countOf (globalsOf f (m .headers) (m .descriptors)) ≡ good (m .globals)
-module-count f m e = let r = module-reads f m e in rw (r .globals, r .count)
-
--- ---- checks 10 to 14
-
--- a refusal is told once
-pub refused-once : (p q : Refusal) → answer.Refused p ≡ answer.Refused q → p ≡ q
-refused-once p q e = cc
-
-module _ (f : List ℕ) (m : Module) (bias n p : ℕ) (choices : List ℕ) where
-  abbrev Checks : Check
-  Checks = runs (callChecks f m bias n p choices)
-
-  -- by what the walk of the items found
-  checks-stopped : (r : Refusal) → walkOf f m bias ≡ bad r → Checks ≡ bad r
-  checks-stopped r w = let q = walk-refused f m bias r w in rw q
-
-  checks-walked : (w : Walked) → walkOf f m bias ≡ good w → lentIn f m (w .outside) bias n p choices ≡ Checks
-  unfolding lentIn addressesCheck
-  checks-walked w e =
-      let k = walk-found f m bias w e in
-      rw (k .passes, k .outside) (go (lendingCheck f m bias n p) (addressesCheck f m bias) (choicesCheck f m choices))
-    where
-      go : (a b c : Check) → andThen a (λ _. andThen b (λ _. c)) ≡ andThen a (λ _. andThen b (λ _. andThen c (λ _. good tt)))
-      go (good _) (good _) (good _) = refl
-      go (good _) (good _) (bad r) = refl
-      go (good _) (bad r) c = refl
-      go (bad r) b c = refl
-
-  -- the answer: a refusal of the walk, one of checks 12 to 14, or the facts
-  pub check-stopped : (r : Refusal) → walkOf f m bias ≡ bad r → checked (callChecks f m bias n p choices) (factsOf f m) ≡ bad r
-  check-stopped r w = let q = checks-stopped r w in rw q
-
-  module _ (w : Walked) (e : walkOf f m bias ≡ good w) where
-    pub check-refused : (r : Refusal) → lentIn f m (w .outside) bias n p choices ≡ bad r
-        → checked (callChecks f m bias n p choices) (factsOf f m) ≡ bad r
-    check-refused r l = let q = sym (checks-walked w e) ∙ l in rw q
-
-    pub check-passed : lentIn f m (w .outside) bias n p choices ≡ good tt → checked (callChecks f m bias n p choices) (factsOf f m) ≡ good (factsOf f m)
-    check-passed l = let q = sym (checks-walked w e) ∙ l in rw q
+use Rattle.load.specs.Written.{writtenPlane, writtenMemory}
 
 -- ---- the writes
 

@@ -11,7 +11,7 @@ use Rattle.rules.specs.declared.Answer.the-variants as answer
 use Rattle.demands.specs.Calls.{buffers}
 use Rattle.demands.proofs.Calls.{calls}
 use borrow.Author.Needs.{needs}
-use Rattle.hagolstan.specs.Packed.{packed}
+use Rattle.packing.specs.Packed.{packed}
 use Rattle.hagolstan.proofs.hagolstan_load.Statement.{statement}
 use Rattle.hagolstan.proofs.hagolstan_load.Tie as tie
 

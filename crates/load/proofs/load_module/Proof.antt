@@ -28,14 +28,15 @@ check-load-requires c κs =
 
 returns-3 : tie.Need-returns-3
 returns-3 c =
-    let checked = c .before .before in
+    let refused = c in
+    let checked = refused .before .before in
     let read = checked .before .before in
     let a = read .before .before .before .before .before .before .before .args in
     let m = read .read .given .0 .0 in
     let e = sym (rw (read .read .given .1) at (read .before .before .read-module .ensures)) in
-    let r = c .enum-told3 .given .0 .0 in
-    let x = sym (rw (c .enum-told3 .given .1) at (checked .check-load .ensures)) in
-    rw (c .enum-told3 .given .1) (call-unfit (a .f .now) (a .bias) (a .choices .now) (buffers (a .memory .now) (a .plane .now)) m e r x)
+    let r = refused .enum-told3 .given .0 .0 in
+    let x = sym (rw (refused .enum-told3 .given .1) at (checked .check-load .ensures)) in
+    rw (refused .enum-told3 .given .1) (call-unfit (a .f .now) (a .bias) (a .choices .now) (buffers (a .memory .now) (a .plane .now)) m e r x)
 
 returns-4 : tie.Need-returns-4
 returns-4 c =

@@ -1,8 +1,8 @@
 -- One word after the other.
 -- Assumes nothing.
 use borrow.Author.Needs.{needs}
-use Rattle.hagolstan.proofs.write_global.Statement.{statement}
-use Rattle.hagolstan.proofs.write_global.Tie as tie
+use Rattle.packing.proofs.write_global.Statement.{statement}
+use Rattle.packing.proofs.write_global.Tie as tie
 
 returns : tie.Need-returns
 returns c =

@@ -4,10 +4,10 @@ use mathlib.Core.Path.{_≡_, sym, ap, _∙_}
 use Rattle.rules.specs.Outcome.{bad}
 use Rattle.demands.proofs.Refusals.{module-counted}
 use Rattle.relocations.proofs.Laws.{walk-found}
-use Rattle.load.proofs.Laws.{refused-once, check-stopped, check-refused, check-passed}
+use Rattle.checks.proofs.Laws.{refused-once, check-stopped, check-refused, check-passed}
 use borrow.Author.Needs.{needs}
-use Rattle.load.proofs.check_load.Statement.{statement}
-use Rattle.load.proofs.check_load.Tie as tie
+use Rattle.checks.proofs.check_load.Statement.{statement}
+use Rattle.checks.proofs.check_load.Tie as tie
 
 check-relocations-requires : tie.Need-check-relocations-requires
 check-relocations-requires c κs = let S = c .before .before in module-counted (S .args .f .now) (S .args .m) (S .pre) .0

@@ -1,10 +1,10 @@
 -- Checks 12 to 14 in their order; a refusal is passed up.
 -- Assumes nothing.
-use Rattle.load.specs.Stages.{lentIn}
-use Rattle.load.proofs.Laws.{module-count}
+use Rattle.checks.specs.Lent.{lentIn}
+use Rattle.checks.proofs.Laws.{module-count}
 use borrow.Author.Needs.{needs}
-use Rattle.load.proofs.check_lent.Statement.{statement}
-use Rattle.load.proofs.check_lent.Tie as tie
+use Rattle.checks.proofs.check_lent.Statement.{statement}
+use Rattle.checks.proofs.check_lent.Tie as tie
 
 returns : tie.Need-returns
 unfolding lentIn

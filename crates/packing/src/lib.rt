@@ -1,0 +1,71 @@
+// Answers as numbers and words: a refusal, the facts, a global that was read.
+ghost use mathlib.Core.Path.{_≡_};
+ghost use Prim.Native.Nat.{_≤_};
+ghost use Rattle.rules.specs.Outcome.{good};
+ghost use Rattle.rules.specs.Descriptors.{global};
+ghost use Rattle.demands.specs.Table.{positionLimit};
+ghost use Rattle.packing.specs.Packed.{packedRefusal, modeNumber, switchNumber, factsNumber, stepWords};
+use rules::Cursor;
+use rules::Facts;
+use rules::Global;
+use rules::Mode;
+use rules::Refusal;
+use rules::Switch;
+
+// Where the counts stand in the facts as one number: globals from bit 8 on, words from bit 25.
+const GLOBALS_UNIT: u64 = 256;
+
+const WORDS_UNIT: u64 = 33554432;
+
+// A refusal as one number.
+pub fn pack_refusal(r: Refusal) -> u64
+    requires { ⌜ r .position ≤ positionLimit ⌝ }
+    ensures { λ v. ⌜ v ≡ packedRefusal r ⌝ }
+{
+    r.position * 256 + r.number as u64
+}
+
+fn mode_number(m: Mode) -> u64
+    ensures { λ v. ⌜ (v ≡ modeNumber m) × (v ≤ 2) ⌝ }
+{
+    match m {
+        Mode::Absent => 0,
+        Mode::Synchronous => 1,
+        Mode::Asynchronous => 2,
+    }
+}
+
+fn switch_number(s: Switch) -> u64
+    ensures { λ v. ⌜ (v ≡ switchNumber s) × (v ≤ 2) ⌝ }
+{
+    match s {
+        Switch::Absent => 0,
+        Switch::Off => 1,
+        Switch::On => 2,
+    }
+}
+
+// All facts as one number.
+pub fn facts_number(a: Facts) -> u64
+    ensures { λ v. ⌜ v ≡ factsNumber a ⌝ }
+{
+    let mode = a.mode;
+    let heap = a.heap;
+    let stack = a.stack;
+    1
+        + 4 * mode_number(mode)
+        + 16 * switch_number(heap)
+        + 64 * switch_number(stack)
+        + GLOBALS_UNIT * (a.globals as u64)
+        + WORDS_UNIT * (a.words as u64)
+}
+
+// The words of a global that was read: its start and granules, and the moved cursor.
+pub fn write_global(words: &mut [u8], g: Global, next: Cursor)
+    ensures { λ _. ⌜ now (words .exit) ≡ stepWords (good (global g next)) (now (words .entry)) ⌝ }
+{
+    memory::put64(words, 0, g.start);
+    memory::put64(words, 8, g.granules);
+    memory::put64(words, 16, next.position);
+    memory::put64(words, 24, next.end);
+}
