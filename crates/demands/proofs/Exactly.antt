@@ -17,7 +17,7 @@ use Rattle.rules.specs.Choices.{choicesCheck}
 use Rattle.rules.specs.Load.{Loaded, loadOf, loaded, callChecks, loadChecks}
 use Rattle.rules.specs.declared.Refusal.{Refusal}
 use Rattle.rules.specs.declared.Module.{Module}
-use Rattle.rules.proofs.OutcomeLaws.{and-left, and-right, require-held, require-true, andThen-good}
+use Rattle.rules.proofs.OutcomeLaws.{good-bad, never, and-left, and-right, require-held, require-true, andThen-good}
 use Rattle.rules.proofs.ChecksLaws.{all-runs, runs-all, first-runs, runs-first}
 use Rattle.laws.proofs.Checks.{andThen-bad}
 use Rattle.laws.proofs.Stages.{examined-stages, load-stages}
@@ -34,7 +34,7 @@ exactly {A} checks a = record {
       (runs-all checks (h .here), same);
   refused-if = λ r first. let e = first-runs checks first in rw e;
   refused-only-if = λ r e.
-      andThen-bad (runs checks) _ e (runs-first checks) (λ _ _ s. absurd (let z : _≡_ {A = ℕ} 0 1 = cc in omega arith));
+      andThen-bad (runs checks) _ e (runs-first checks) (λ _ _ s. good-bad s);
 }
 
 pub exactly-read : (f : List ℕ) → Exactly (moduleOf f) (readerChecks f) (theModule f)
@@ -115,8 +115,8 @@ module _ (f : List ℕ) (bias n p : ℕ) (choices : List ℕ) where
   examined-refused r e =
       andThen-bad (moduleOf f) _ (sym (examined-stages f) ∙ e) (load-unread r) (λ m a e.
       andThen-bad (relocationsCheck f m) _ (andThen-bad (runs (moduleChecks f m)) _ e (λ q. q)
-      (λ _ _ e. absurd (let z : _≡_ {A = ℕ} 0 1 = cc in omega arith))) (λ b. load-checked m a ∙ rw b)
-      (λ _ _ e. absurd (let z : _≡_ {A = ℕ} 0 1 = cc in omega arith)))
+      (λ _ _ e. search never)) (λ b. load-checked m a ∙ rw b)
+      (λ _ _ e. search never))
 
   pub same-facts : SameFacts f bias n p choices
   same-facts = record { facts-examined = examined-taken; refusal-examined = examined-refused }

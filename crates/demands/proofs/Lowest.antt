@@ -14,10 +14,11 @@ use Rattle.rules.specs.declared.Refusal.{Refusal}
 use Rattle.rules.proofs.FirstLaws.{first-le, first-true, first-below, first-end, faultless-hit}
 use Rattle.laws.proofs.Checks.{le-or-lt}
 use Rattle.demands.specs.Table.{Clear, Lowest}
+use Rattle.rules.proofs.OutcomeLaws.{true-false, good-bad}
 
 -- a test does not both hold and fail
 pub not-both : {A : Type 0} (b : Bool) → b ≡ true → b ≡ false → A
-not-both b p q = absurd (let z : true ≡ false = sym p ∙ q in let z : _≡_ {A = ℕ} 0 1 = cc in omega arith)
+not-both b p q = true-false (sym p ∙ q)
 
 -- a test with a refusal behind it: which of the two refused
 pub cond-bad : {A P : Type 0} {r : Refusal} (b : Bool) (x : Outcome A) (q : Refusal) → cond b x (bad q) ≡ bad r
@@ -68,7 +69,7 @@ module _ (fault : ℕ → Bool) where
       → (i : ℕ) × (Lowest fault 0 n i × (r ≡ refusal number i))
   faultless-lowest {r} number n h =
       cond-bad (eqb (first fault 0 n) n) (good tt) (refusal number (first fault 0 n)) h
-      (λ t q. absurd (let z : _≡_ {A = ℕ} 0 1 = cc in omega arith))
+      (λ t q. good-bad q)
       (λ t q.
       let ne = eqb-false (first fault 0 n) n t in
       let l = first-le fault n 0 in

@@ -38,7 +38,7 @@ use Rattle.rules.specs.declared.Module.{Module}
 use Rattle.rules.specs.declared.Target.{Target}
 use Rattle.rules.specs.declared.Target.the-variants.{Base, Defined, Undefined, Barred}
 use Rattle.rules.proofs.MemoryLaws.{put-split}
-use Rattle.rules.proofs.OutcomeLaws.{andThen-good, require-true}
+use Rattle.rules.proofs.OutcomeLaws.{never, andThen-good, require-true}
 use Rattle.rules.proofs.ChecksLaws.{all-runs, runs-all}
 use Rattle.laws.proofs.Checks.{cond-both, le-or-lt, all-faults}
 use Rattle.laws.proofs.Loads.{load-good, load-end}
@@ -60,12 +60,12 @@ range-same (negsuc x) = refl
 
 in-range-same : (z : ℤ) → outOfRange z ≡ false → natural z ≡ natAbs z
 in-range-same (pos x) h = refl
-in-range-same (negsuc x) h = absurd (let z : _≡_ {A = ℕ} 0 1 = cc in omega arith)
+in-range-same (negsuc x) h = search never
 
 -- a symbol that is allowed has the address that its target has
 named-base : (f : List ℕ) (bias : ℕ) (p : Backing) → barred (namedTarget f p) ≡ false → baseOf bias (namedTarget f p) ≡ symbolAddress f bias p
 unfolding namedTarget targetOf symbolOf
-named-base f bias backing.Nowhere h = absurd (let z : _≡_ {A = ℕ} 0 1 = cc in omega arith)
+named-base f bias backing.Nowhere h = search never
 named-base f bias (backing.At at) h =
     go (eqb (symbolOf f at .info % 16) 6 || eqb (symbolOf f at .info % 16) 10) (leb 0xff00 (le 2 f (at + 6))) (eqb (le 2 f (at + 6)) 0)
     (eqb (symbolOf f at .info / 16) 2) h
@@ -74,10 +74,10 @@ named-base f bias (backing.At at) h =
         → barred (cond a Barred (cond b Barred (cond c (cond e Undefined Barred) (Defined (le 8 f (at + 8)))))) ≡ false
         → baseOf bias (cond a Barred (cond b Barred (cond c (cond e Undefined Barred) (Defined (le 8 f (at + 8))))))
         ≡ cond c 0 (bias + le 8 f (at + 8))
-    go true b c e h = absurd (let z : _≡_ {A = ℕ} 0 1 = cc in omega arith)
-    go false true c e h = absurd (let z : _≡_ {A = ℕ} 0 1 = cc in omega arith)
+    go true b c e h = search never
+    go false true c e h = search never
     go false false true true h = refl
-    go false false true false h = absurd (let z : _≡_ {A = ℕ} 0 1 = cc in omega arith)
+    go false false true false h = search never
     go false false false e h = refl
 
 target-base : (f : List ℕ) (h : Headers) (symbols : Entry) (bias kind symbol : ℕ) → barred (target f h symbols kind symbol) ≡ false
@@ -95,10 +95,10 @@ target-base f h symbols bias kind symbol t =
         → pos (baseOf bias (cond a (cond b Base Barred) (cond c (cond b Barred N) Barred)))
         ≡ cond a (pos bias) (pos (symbolAddress f bias (symbolBacking f h symbol symbols)))
     go true true c t = refl
-    go true false c t = absurd (let z : _≡_ {A = ℕ} 0 1 = cc in omega arith)
-    go false true true t = absurd (let z : _≡_ {A = ℕ} 0 1 = cc in omega arith)
+    go true false c t = search never
+    go false true true t = search never
     go false false true t = ap pos (named-base f bias (symbolBacking f h symbol symbols) t)
-    go false b false t = absurd (let z : _≡_ {A = ℕ} 0 1 = cc in omega arith)
+    go false b false t = search never
 
 module _ (f : List ℕ) (m : Module) (headed : headersOf f ≡ good (m .headers)) (loads : loadsCheck f (m .headers) ≡ good tt) where
   -- a symbol's entry, without the guard of the rules

@@ -17,6 +17,7 @@ use Rattle.rules.specs.Choices.{globalsIn}
 use Rattle.rules.specs.declared.Module.{Module}
 use Rattle.laws.proofs.Checks.{good-same}
 use Rattle.demands.proofs.Exactly.{exactly-read}
+use Rattle.rules.proofs.OutcomeLaws.{never}
 
 -- checks 1 to 9 pass, and m is what they find
 pub record Reads (f : List ℕ) (m : Module) : Type 0 where
@@ -34,7 +35,7 @@ pub record Reads (f : List ℕ) (m : Module) : Type 0 where
 -- a check that passes found what stands for it
 passed-good : {A : Type 0} (other : A) (o : Outcome A) → passed o ≡ good tt → o ≡ good (found other o)
 passed-good other (good a) e = refl
-passed-good other (bad r) e = absurd (let z : _≡_ {A = ℕ} 0 1 = cc in omega arith)
+passed-good other (bad r) e = search never
 
 all-reads : (f : List ℕ) → All (readerChecks f) → Reads f (theModule f)
 unfolding headersOf

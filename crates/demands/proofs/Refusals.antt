@@ -36,7 +36,7 @@ use Rattle.rules.specs.declared.Global.{Global}
 use Rattle.rules.specs.declared.Module.{Module}
 use Rattle.rules.specs.declared.Facts.{Facts}
 use Rattle.rules.proofs.FirstLaws.{count-le}
-use Rattle.rules.proofs.OutcomeLaws.{and-left, and-right, andThen-good, require-held, cond-held}
+use Rattle.rules.proofs.OutcomeLaws.{good-bad, bad-good, never, and-left, and-right, andThen-good, require-held, cond-held}
 use Rattle.rules.proofs.ChecksLaws.{all-append}
 use Rattle.laws.proofs.Checks.{good-same}
 use Rattle.laws.proofs.Globals.{globals-count}
@@ -51,7 +51,7 @@ use Rattle.demands.specs.Demands.{Numbered, Counted, Examines}
 -- ---- numbers and positions of a list of checks
 
 listed-more : (xs ys : List ℕ) (x : ℕ) → listed xs x ≡ true → listed (xs ++ ys) x ≡ true
-listed-more [] ys x h = absurd (let z : _≡_ {A = ℕ} 0 1 = cc in omega arith)
+listed-more [] ys x h = search never
 listed-more (y ∷ xs) ys x h = go (eqb y x) h (listed-more xs ys x)
   where
     go : (b : Bool) → (b || listed xs x) ≡ true → (listed xs x ≡ true → listed (xs ++ ys) x ≡ true) → (b || listed (xs ++ ys) x) ≡ true
@@ -90,13 +90,13 @@ within-passed : {A : Type 0} {numbers : List ℕ} {o : Outcome A} → Within num
 within-passed {A} {numbers} {o} h = record { within = λ r e. go o (h .within r) e }
   where
     go : {r : Refusal} (o : Outcome A) → (o ≡ bad r → Numbered numbers r) → passed o ≡ bad r → Numbered numbers r
-    go (good a) k e = absurd (let z : _≡_ {A = ℕ} 0 1 = cc in omega arith)
+    go (good a) k e = good-bad e
     go {r} (bad q) k e = let z : q ≡ r = cc in k (rw z)
 
 -- what holds of what a check that passes finds
 passed-found : {A : Type 0} (P : A → Type 0) (other : A) (o : Outcome A) → passed o ≡ good tt → ((a : A) → o ≡ good a → P a) → P (found other o)
 passed-found P other (good a) e h = h a refl
-passed-found P other (bad r) e h = absurd (let z : _≡_ {A = ℕ} 0 1 = cc in omega arith)
+passed-found P other (bad r) e h = bad-good e
 
 -- a position of each kind is within bounds
 abbrev Bounded : (ℕ → Type 0) → Type 0
@@ -108,7 +108,7 @@ listed-one code x h = go (eqb code x) refl h
   where
     go : (b : Bool) → eqb code x ≡ b → (b || false) ≡ true → x ≡ code
     go true q h = sym (eqb-true code x q)
-    go false q h = absurd (let z : _≡_ {A = ℕ} 0 1 = cc in omega arith)
+    go false q h = search never
 
 listed-two : (one two x : ℕ) → listed (one ∷ two ∷ []) x ≡ true → (x ≡ one) ⊎ (x ≡ two)
 listed-two one two x h = go (eqb one x) refl h
@@ -150,17 +150,17 @@ header-count size kind machine version width count table h =
     let e = and-left (leb 1 count && leb count headerLimit) _ d in
     leb-true count headerLimit (and-right (leb 1 count) _ e)
 
-dynamicAt-entries : (f : List ℕ) (i size : ℕ) (p : Backing) (d : Dynamic) → dynamicAt f i size p ≡ good d → d .entries ≤ 256
+dynamicAt-entries : (f : List ℕ) (i size : ℕ) (p : Backing) (d : Dynamic) → dynamicAt f i size p ≡ good d → d .entries ≤ dynamicLimit / 16
 unfolding dynamicAt goodSize
-dynamicAt-entries f i size Nowhere d e = absurd (let z : _≡_ {A = ℕ} 0 1 = cc in omega arith)
+dynamicAt-entries f i size Nowhere d e = bad-good e
 dynamicAt-entries f i size (At at) d e =
     let c = cond-held _ (goodSize size && ltb (nullEntry f at (size / 16)) (size / 16)) _ e in
     let s = and-right (leb 16 size) _ (and-right (eqb (size % 16) 0) _ (and-left (goodSize size) _ (c .0))) in
     let b = leb-true size dynamicLimit s in
     let l = ltb-true (nullEntry f at (size / 16)) (size / 16) (and-right (goodSize size) _ (c .0)) in
-    good-same (λ (d : Dynamic). d .entries ≤ 256) _ d (c .1) (omega arith)
+    good-same (λ (d : Dynamic). d .entries ≤ dynamicLimit / 16) _ d (c .1) (omega arith)
 
-dynamic-entries : (f : List ℕ) (h : Headers) (d : Dynamic) → dynamicOf f h ≡ good d → d .entries ≤ 256
+dynamic-entries : (f : List ℕ) (h : Headers) (d : Dynamic) → dynamicOf f h ≡ good d → d .entries ≤ dynamicLimit / 16
 unfolding dynamicOf
 dynamic-entries f h d e =
     let a = andThen-good (require (ltb (firstDynamic f h) (h .count)) 5 (h .count)) _ e in
@@ -189,7 +189,7 @@ dynamic-position f h l i (no-dynamic c q) = omega arith
 dynamic-position f h l i (second-dynamic j a b) = let u = b .below in omega arith
 dynamic-position f h l i (bad-dynamic a b e) = let u = a .below in omega arith
 
-entry-position : (f : List ℕ) (d : Dynamic) → d .entries ≤ 256 → Bounded (EntryFault f d)
+entry-position : (f : List ℕ) (d : Dynamic) → d .entries ≤ dynamicLimit / 16 → Bounded (EntryFault f d)
 entry-position f d l i (bad-entry a) = let u = a .below in omega arith
 entry-position f d l i (no-partner k a b c q) = omega arith
 
@@ -230,8 +230,8 @@ module _ (f : List ℕ) where
   unfolding headerCheck
   count-most e = header-count (length f) (le 2 f 16) (le 2 f 18) (le 4 f 20) (le 2 f 54) (le 2 f 56) (le 8 f 32) (require-held _ 3 0 e)
 
-  dynamic-most : passed (dynamicOf f H) ≡ good tt → D .entries ≤ 256
-  dynamic-most e = passed-found (λ (d : Dynamic). d .entries ≤ 256) _ (dynamicOf f H) e (dynamic-entries f H)
+  dynamic-most : passed (dynamicOf f H) ≡ good tt → D .entries ≤ dynamicLimit / 16
+  dynamic-most e = passed-found (λ (d : Dynamic). d .entries ≤ dynamicLimit / 16) _ (dynamicOf f H) e (dynamic-entries f H)
 
   reader-each : Each readerNumbers (readerChecks f)
   reader-each =

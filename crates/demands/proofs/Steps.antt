@@ -13,7 +13,7 @@ use Rattle.rules.specs.Limits.{addressLimit, granule}
 use Rattle.rules.specs.Descriptors.{Uleb, number, malformed, extend, lastLimit, ulebIn, ulebAt}
 use Rattle.rules.specs.Descriptors.{Read, finished, global, globalAfter, second, descriptor, stepAt}
 use Rattle.rules.specs.declared.Cursor.{Cursor}
-use Rattle.rules.proofs.OutcomeLaws.{cond-held}
+use Rattle.rules.proofs.OutcomeLaws.{bad-good, cond-held}
 use Rattle.laws.proofs.Checks.{cond-case, good-same}
 use Rattle.laws.proofs.Globals.{step-next}
 use Rattle.demands.proofs.Table.{step-refusal}
@@ -62,7 +62,7 @@ second-moves : (at size index end distance next : ℕ) (u : Uleb) (r : Read) →
 unfolding second
 second-moves at size index end distance next (number v after) r h k e =
     global-moves at size index end distance (v + 1) after r (omega arith, (k .1 .0, omega arith)) e
-second-moves at size index end distance next malformed r h k e = absurd (let z : _≡_ {A = ℕ} 0 1 = cc in omega arith)
+second-moves at size index end distance next malformed r h k e = bad-good e
 
 descriptor-moves : (index : ℕ) (s : List ℕ) (at end : ℕ) (u : Uleb) (r : Read) → Stands at (length s) 10 u
     → descriptor index s end u ≡ good r → Moves at (length s) r
@@ -72,7 +72,7 @@ descriptor-moves index s at end (number v next) r h e = go (eqb (v % 8) 0) e
     go : (b : Bool) → cond b (second index end (v / 8) (ulebAt s next)) (globalAfter index end (v / 8) (v % 8) next) ≡ good r → Moves at (length s) r
     go true q = second-moves at (length s) index end (v / 8) next (ulebAt s next) r h (uleb-stands s 10 next) q
     go false q = global-moves at (length s) index end (v / 8) (v % 8) next r (h .0, (h .1 .0, omega arith)) q
-descriptor-moves index s at end malformed r h e = absurd (let z : _≡_ {A = ℕ} 0 1 = cc in omega arith)
+descriptor-moves index s at end malformed r h e = bad-good e
 
 -- what a good step has found: the table's end, or a global
 abbrev Found : ℕ → ℕ → Read → Type 0

@@ -35,8 +35,8 @@ use Rattle.rules.specs.declared.Descriptors.{Descriptors}
 use Rattle.rules.specs.declared.Global.{Global}
 use Rattle.rules.specs.declared.Cursor.{Cursor}
 use Rattle.rules.specs.declared.Module.{Module}
-use Rattle.rules.proofs.FirstLaws.{first-le}
-use Rattle.rules.proofs.OutcomeLaws.{require-held}
+use Rattle.rules.proofs.FirstLaws.{first-le, at-some}
+use Rattle.rules.proofs.OutcomeLaws.{good-bad, never, require-held}
 use Rattle.laws.proofs.Checks.{andThen-bad, require-stopped, faultless-all, all-faultless, some-at, some-all}
 use Rattle.demands.proofs.Lowest.{not-both, cond-bad, lowest-first, first-lowest, clear-first, first-clear, faultless-lowest, lowest-faultless}
 use Rattle.demands.specs.Table.{listed, Lowest, Reaches, Row, Table}
@@ -51,14 +51,6 @@ By code P r = (i : ℕ) × ((r ≡ refusal code i) × P i)
 record Refuses {A : Type 0} (c : Outcome A) (Says : Refusal → Type 0) : Type 0 where
   says : (r : Refusal) → c ≡ bad r → Says r
   when : (r : Refusal) → Says r → c ≡ bad r
-
--- a test that holds somewhere holds at some index
-at-some : (t : ℕ → Bool) (n i : ℕ) → i < n → t i ≡ true → someBelow t n ≡ true
-at-some t n i l e = go (someBelow t n) refl
-  where
-    go : (b : Bool) → someBelow t n ≡ b → someBelow t n ≡ true
-    go true q = q
-    go false q = not-both (t i) e (some-all t n q i l)
 
 -- ---- check 1
 
@@ -88,13 +80,13 @@ unfolding dynamicAt
 dynamicAt-refusal f i size Nowhere e = cc
 dynamicAt-refusal f i size (At at) e =
     cond-bad (goodSize size && ltb (nullEntry f at (size / 16)) (size / 16)) _ (refusal 5 i) e
-    (λ _ q. absurd (let z : _≡_ {A = ℕ} 0 1 = cc in omega arith)) (λ _ q. q)
+    (λ _ q. search never) (λ _ q. q)
 
 -- ---- check 7
 
 backed-row : {r : Refusal} (position : ℕ) (p : Backing) → backed position p ≡ bad r → (p ≡ Nowhere) × (r ≡ refusal 7 position)
 backed-row position Nowhere e = (refl, cc)
-backed-row position (At at) e = absurd (let z : _≡_ {A = ℕ} 0 1 = cc in omega arith)
+backed-row position (At at) e = search never
 
 relocations-row : {r : Refusal} (f : List ℕ) (h : Headers) (d : Dynamic) → relocationsOf f h d ≡ bad r
     → ((tableBacking f h (relaAddress f d) (relaBytes f d) ≡ Nowhere) ⊎ (entryLimit < relaBytes f d / 24)) × (r ≡ refusal 7 0)
@@ -104,7 +96,7 @@ relocations-row f h d e =
     (λ q. let b = backed-row 0 (tableBacking f h (relaAddress f d) (relaBytes f d)) q in (inl (b .0), b .1)) (λ _ _ q.
     andThen-bad (require (leb (relaBytes f d / 24) entryLimit) 7 0) _ q
     (λ q. let s = require-stopped (leb (relaBytes f d / 24) entryLimit) 7 0 q in (inr (leb-false (relaBytes f d / 24) entryLimit (s .0)), s .1))
-    (λ _ _ q. absurd (let z : _≡_ {A = ℕ} 0 1 = cc in omega arith)))
+    (λ _ _ q. good-bad q))
 
 row-relocations : (f : List ℕ) (h : Headers) (d : Dynamic)
     → (tableBacking f h (relaAddress f d) (relaBytes f d) ≡ Nowhere) ⊎ (entryLimit < relaBytes f d / 24) → relocationsOf f h d ≡ bad (refusal 7 0)
@@ -123,7 +115,7 @@ unfolding descriptorsOf
 descriptors-row f h d e =
     andThen-bad (backed 1 (tableBacking f h (descriptorAddress f d) (descriptorBytes f d))) _ e
     (backed-row 1 (tableBacking f h (descriptorAddress f d) (descriptorBytes f d)))
-    (λ _ _ q. absurd (let z : _≡_ {A = ℕ} 0 1 = cc in omega arith))
+    (λ _ _ q. search never)
 
 row-descriptors : (f : List ℕ) (h : Headers) (d : Dynamic) → tableBacking f h (descriptorAddress f d) (descriptorBytes f d) ≡ Nowhere
     → descriptorsOf f h d ≡ bad (refusal 7 1)
@@ -140,7 +132,7 @@ global-refusal : {r : Refusal} (index end distance granules next : ℕ) → glob
 unfolding globalAfter
 global-refusal index end distance granules next e =
     cond-bad (leb (end + granule * distance + granule * granules) addressLimit) _ (refusal 9 index) e
-    (λ _ q. absurd (let z : _≡_ {A = ℕ} 0 1 = cc in omega arith)) (λ _ q. inr q)
+    (λ _ q. good-bad q) (λ _ q. inr q)
 
 second-refusal : {r : Refusal} (index end distance : ℕ) (u : Uleb) → second index end distance u ≡ bad r → EightOrNine index r
 unfolding second
@@ -166,7 +158,7 @@ step-refusal {r} index s c e =
   where
     go : (b : Bool) → cond b (descriptor index s (c .end) (ulebAt s (c .position))) (good finished) ≡ bad r → EightOrNine index r
     go true q = descriptor-refusal index s (c .end) (ulebAt s (c .position)) q
-    go false q = absurd (let z : _≡_ {A = ℕ} 0 1 = cc in omega arith)
+    go false q = good-bad q
 
 -- ---- the rows
 
@@ -265,7 +257,7 @@ module _ (f : List ℕ) where
         go : (b : Bool) → ltb (c .position) (length (descriptorTable f t)) ≡ b
             → cond {A = Outcome (List Global)} b (bad (refusal 9 i)) (good []) ≡ bad r → Faulty r
         go true q x = inr (i, (cc, left-over c (omega arith) w (ltb-true _ _ q)))
-        go false q x = absurd (let z : _≡_ {A = ℕ} 0 1 = cc in omega arith)
+        go false q x = good-bad x
     walk-says {r} (suc k) i c l w e =
         andThen-bad (stepAt i (descriptorTable f t) c) _ e
         (λ q. ⊎-elim
@@ -283,13 +275,13 @@ module _ (f : List ℕ) where
             → ((c : Cursor) → i + 1 + k ≡ globalLimit → Reaches f h (descriptorTable f t) (i + 1) c
             → globalsFrom f h (descriptorTable f t) k (i + 1) c ≡ bad r → Faulty r)
             → Faulty r
-        go finished q s again = absurd (let z : _≡_ {A = ℕ} 0 1 = cc in omega arith)
+        go finished q s again = good-bad s
         go (global x next) q s again =
             cond-bad (inMemory f h false (x .start) (granule * x .granules)) _ (refusal 9 i) s
             (λ a s.
             andThen-bad (globalsFrom f h (descriptorTable f t) k (i + 1) next) _ s
             (again next (omega arith) (rw add-one (record { cursor = c; before = w; read = x; reads = q; inside = a })))
-            (λ _ _ s. absurd (let z : _≡_ {A = ℕ} 0 1 = cc in omega arith)))
+            (λ _ _ s. good-bad s))
             (λ a s. inr (i, (s, outside-loads c next x (omega arith) w q a)))
 
     -- a walk that comes to an index and is refused there is refused
@@ -333,7 +325,7 @@ module _ (f : List ℕ) where
     unfolding relocationsCheck firstBad
     item-says r e =
         cond-bad (eqb (first (badRelocation f m) 0 (items m)) (items m)) _ _ e
-        (λ _ q. absurd (let z : _≡_ {A = ℕ} 0 1 = cc in omega arith))
+        (λ _ q. good-bad q)
         (λ a q.
         let ne = eqb-false (first (badRelocation f m) 0 (items m)) (items m) a in
         let l = first-le (badRelocation f m) (items m) 0 in

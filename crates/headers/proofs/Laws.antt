@@ -17,7 +17,7 @@ use Rattle.rules.specs.Bytes.{le}
 use Rattle.rules.specs.Headers.{goodHeader, sizeCheck, headerCheck, headerChecks}
 use Rattle.rules.specs.Segments.{powerBelow, goodLoad, isLoad}
 use Rattle.rules.specs.declared.Segment.{Segment}
-use Rattle.rules.proofs.OutcomeLaws.{and-left, and-right, require-held}
+use Rattle.rules.proofs.OutcomeLaws.{never, and-left, and-right, require-held}
 use Rattle.rules.proofs.ChecksLaws.{runs-all}
 
 -- the header table ends inside the file
@@ -57,8 +57,8 @@ load-end n last s l h = good-load-end n last s (not-bad _ _ l h)
   where
     not-bad : (a b : Bool) → a ≡ true → (a && not b) ≡ false → b ≡ true
     not-bad true true p q = refl
-    not-bad true false p q = absurd (let z : _≡_ {A = ℕ} 0 1 = cc in omega arith)
-    not-bad false b p q = absurd (let z : _≡_ {A = ℕ} 0 1 = cc in omega arith)
+    not-bad true false p q = search never
+    not-bad false b p q = search never
 
 -- a list of one check
 pub run-one : (c : Check) → runs (c ∷ []) ≡ c

@@ -12,7 +12,7 @@ use Rattle.rules.specs.Outcome.{Outcome, good, bad, andThen, require, refusal}
 use Rattle.rules.specs.declared.Refusal.{Refusal}
 use Rattle.rules.specs.First.{first, someBelow, faultsAt, faultless}
 use Rattle.rules.proofs.FirstLaws.{first-le, first-all, first-end, first-true}
-use Rattle.rules.proofs.OutcomeLaws.{cond-held}
+use Rattle.rules.proofs.OutcomeLaws.{never, cond-held}
 
 -- an outcome is one of the two
 pub either : {A : Type 0} (o : Outcome A) → ((a : A) × (o ≡ good a)) ⊎ ((r : Refusal) × (o ≡ bad r))
@@ -24,13 +24,13 @@ or-left true b h = h
 or-left false b h = refl
 
 pub or-right : (a b : Bool) → (a || b) ≡ false → b ≡ false
-or-right true b h = absurd (let z : _≡_ {A = ℕ} 0 1 = cc in omega arith)
+or-right true b h = search never
 or-right false b h = h
 
 -- where the first holds the second does not
 pub and-false : (a b : Bool) → (a && b) ≡ false → a ≡ true → b ≡ false
 and-false true b h e = h
-and-false false b h e = absurd (let z : _≡_ {A = ℕ} 0 1 = cc in omega arith)
+and-false false b h e = search never
 
 -- by cases on a test
 pub cond-case : {A : Type 0} (P : A → Type 0) (b : Bool) (x y : A) → (b ≡ true → P x) → (b ≡ false → P y) → P (cond b x y)
@@ -49,7 +49,7 @@ andThen-bad (good a) k h here after = after a refl h
 andThen-bad (bad r) k h here after = here (cc)
 
 pub require-stopped : {r : Refusal} (b : Bool) (n p : ℕ) → require b n p ≡ bad r → (b ≡ false) × (r ≡ refusal n p)
-require-stopped true n p h = absurd (let z : _≡_ {A = ℕ} 0 1 = cc in omega arith)
+require-stopped true n p h = search never
 require-stopped false n p h = (refl, cc)
 
 -- what holds of a value that came out good

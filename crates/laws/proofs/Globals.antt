@@ -20,7 +20,7 @@ use Rattle.rules.specs.declared.Headers.{Headers}
 use Rattle.rules.specs.declared.Descriptors.{Descriptors}
 use Rattle.rules.specs.declared.Global.{Global}
 use Rattle.rules.specs.declared.Cursor.{Cursor}
-use Rattle.rules.proofs.OutcomeLaws.{andThen-good, cond-held}
+use Rattle.rules.proofs.OutcomeLaws.{bad-good, andThen-good, cond-held}
 use Rattle.laws.proofs.Checks.{good-same}
 use Rattle.laws.proofs.Loads.{in-memory}
 
@@ -53,7 +53,7 @@ global-next index end distance granules next r l h =
 second-next : (index end distance : ℕ) (u : Uleb) (r : Read) → second index end distance u ≡ good r → Next end r
 unfolding second
 second-next index end distance (number v next) r h = global-next index end distance (v + 1) next r (omega arith) h
-second-next index end distance malformed r h = absurd (let z : _≡_ {A = ℕ} 0 1 = cc in omega arith)
+second-next index end distance malformed r h = bad-good h
 
 descriptor-next : (index : ℕ) (s : List ℕ) (end : ℕ) (u : Uleb) (r : Read) → descriptor index s end u ≡ good r → Next end r
 unfolding descriptor
@@ -65,7 +65,7 @@ descriptor-next index s end (number v next) r h = go (eqb (v % 8) 0) refl h
     go false e h =
         let ne = eqb-false (v % 8) 0 e in
         global-next index end (v / 8) (v % 8) next r (omega arith) h
-descriptor-next index s end malformed r h = absurd (let z : _≡_ {A = ℕ} 0 1 = cc in omega arith)
+descriptor-next index s end malformed r h = bad-good h
 
 pub step-next : (index : ℕ) (s : List ℕ) (c : Cursor) (r : Read) → stepAt index s c ≡ good r → (c .end % 16 ≡ 0) × Next (c .end) r
 unfolding stepAt
@@ -98,7 +98,7 @@ module _ (f : List ℕ) (h : Headers) (s : List ℕ) (passed : loadsCheck f h �
   globals-from zero i c gs e = go (ltb (c .position) (length s)) e
     where
       go : (b : Bool) → cond b (bad (refusal 9 i)) (good []) ≡ good gs → Chain (loadsEnd f h) (c .end) gs × (length gs ≤ 0)
-      go true q = absurd (let z : _≡_ {A = ℕ} 0 1 = cc in omega arith)
+      go true q = bad-good q
       go false q = good-same (λ gs. Chain (loadsEnd f h) (c .end) gs × (length gs ≤ 0)) [] gs q (tt, omega arith)
   globals-from (suc n) i c gs e =
       let a = andThen-good (stepAt i s c) _ e in
@@ -185,7 +185,7 @@ unfolding globalsFrom
 globals-turn f h s zero i c g gs e = go (ltb (c .position) (length s)) e
   where
     go : (b : Bool) → cond b (bad (refusal 9 i)) (good []) ≡ good (g ∷ gs) → Turn f h s zero i c g gs
-    go true q = absurd (let z : _≡_ {A = ℕ} 0 1 = cc in omega arith)
+    go true q = bad-good q
     go false q = absurd (let z : _≡_ {A = ℕ} 0 1 = cc in omega arith)
 globals-turn f h s (suc n) i c g gs e =
     let a = andThen-good (stepAt i s c) _ e in

@@ -16,14 +16,14 @@ use Rattle.rules.specs.Relocations.{placeAt, live, items, positionAt, targetAt,
 use Rattle.rules.specs.Relocations.{hasPlace, taken, placeFits, goodPlace, badRelocation, firstBad, relocationsCheck}
 use Rattle.rules.specs.Addresses.{outOfRange, natural, addressAt, badAddress, addressesCheck}
 use Rattle.rules.specs.declared.Module.{Module}
-use Rattle.rules.proofs.OutcomeLaws.{and-left, and-right, cond-held}
+use Rattle.rules.proofs.OutcomeLaws.{true-false, and-left, and-right, cond-held}
 use Rattle.laws.proofs.Checks.{or-left, or-right, le-or-lt, and-false, end-all, faults-all, some-all}
 use Rattle.laws.proofs.Loads.{in-memory}
 use Rattle.laws.proofs.Writes.{Apart}
 
 pub in-range : (z : ℤ) → outOfRange z ≡ false → natural z < addressLimit
 in-range (pos x) h = leb-false addressLimit x h
-in-range (negsuc x) h = absurd (let z : _≡_ {A = ℕ} 0 1 = cc in omega arith)
+in-range (negsuc x) h = true-false h
 
 -- multiples of 8 that differ
 eight-apart : (a b : ℕ) → a % 8 ≡ 0 → b % 8 ≡ 0 → (a ≡ b → ⊥) → (a + 8 ≤ b) ⊎ (b + 8 ≤ a)

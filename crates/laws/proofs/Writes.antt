@@ -9,6 +9,7 @@ use native.Mathlib.Nat.{add-zero, add-suc, eq-or-lt-of-le, pow-succ', mul-assoc,
 use native.Mathlib.Omega.{arith}
 use lib.ListN.{length, getD}
 use lib.Dec.{lit<}
+use Rattle.rules.specs.Limits.{addressLimit}
 use Rattle.rules.specs.Bytes.{le}
 use Rattle.rules.specs.Memory.{over, put, bytesOf, putWord}
 use Rattle.rules.specs.Words.{writes}
@@ -152,10 +153,10 @@ bytes-low (suc n) x t =
 pub low-bytes : (x t : ℕ) → bytesOf 7 (x + 2 ^ 56 * t) ≡ bytesOf 7 x
 low-bytes x t = bytes-low 7 x t
 
-pub top-byte : (x t : ℕ) → x < 2 ^ 48 → t < 16 → getD (bytesOf 8 (x + 2 ^ 56 * t)) 7 0 ≡ t
+pub top-byte : (x t : ℕ) → x < addressLimit → t < 16 → getD (bytesOf 8 (x + 2 ^ 56 * t)) 7 0 ≡ t
 top-byte x t h g = omega arith
 
-pub bare-byte : (x : ℕ) → x < 2 ^ 48 → getD (bytesOf 8 x) 7 0 ≡ 0
+pub bare-byte : (x : ℕ) → x < addressLimit → getD (bytesOf 8 x) 7 0 ≡ 0
 bare-byte x h = omega arith
 
 -- the number that a word's bytes stand for

@@ -20,6 +20,7 @@ use Rattle.rules.proofs.MemoryLaws.{put-length}
 use Rattle.laws.proofs.Checks.{cond-case, cond-both}
 use Rattle.laws.proofs.Writes.{Apart, apart-fewer, writes-length, writes-other, low-bytes}
 use Rattle.placing.specs.Words.{wordIn, written, relocated}
+use Rattle.rules.proofs.OutcomeLaws.{never}
 
 -- ---- the low 64 bits
 
@@ -41,7 +42,7 @@ put-mod m at w = ap (λ (s : List ℕ). put m at s) (bytes-mod w)
 -- an address in range is its own rest modulo 2^64
 mod-natural : (z : ℤ) → outOfRange z ≡ false → mod64 z ≡ natural z
 mod-natural (pos x) h = let l = leb-false addressLimit x h in omega arith
-mod-natural (negsuc x) h = absurd (let z : _≡_ {A = ℕ} 0 1 = cc in omega arith)
+mod-natural (negsuc x) h = search never
 
 -- ---- what a place holds
 

@@ -28,7 +28,7 @@ use Rattle.rules.specs.declared.Target.{Target}
 use Rattle.rules.specs.declared.Walked.{Walked}
 use Rattle.rules.specs.declared.Refusal.{Refusal}
 use Rattle.rules.proofs.FirstLaws.{first-step, first-hit, first-none, first-same, first-next, count-le}
-use Rattle.rules.proofs.OutcomeLaws.{and-left, andThen-good}
+use Rattle.rules.proofs.OutcomeLaws.{false-true, never, and-left, andThen-good}
 use Rattle.laws.proofs.Checks.{andThen-bad}
 use Rattle.segments.specs.Spans.{Sound}
 use Rattle.segments.specs.declared.Span.{Span}
@@ -44,13 +44,13 @@ outside-out z e = go (outOfRange z) e
   where
     go : (b : Bool) → cond b Outside (At (natural z)) ≡ Outside → b ≡ true
     go true q = refl
-    go false q = absurd (let z : _≡_ {A = ℕ} 0 1 = cc in omega arith)
+    go false q = search never
 
 pub at-in : (z : ℤ) (a : ℕ) → inRange z ≡ At a → outOfRange z ≡ false
 at-in z a e = go (outOfRange z) e
   where
     go : (b : Bool) → cond b Outside (At (natural z)) ≡ At a → b ≡ false
-    go true q = absurd (let z : _≡_ {A = ℕ} 0 1 = cc in omega arith)
+    go true q = search never
     go false q = refl
 
 -- the target that was looked up, by the fields that were read
@@ -118,7 +118,7 @@ clear-tests : (l b p t : Bool) → _≡_ {A = ℕ} (cond l (cond b 10 (cond p 0 
 clear-tests false b p t e = (refl, λ h. never h, λ h. never h)
   where
     never : {A : Type 0} → false ≡ true → A
-    never h = absurd (let z : _≡_ {A = ℕ} 0 1 = cc in omega arith)
+    never h = false-true h
 clear-tests true true p t e = absurd (omega arith)
 clear-tests true false true true e = (refl, λ h. refl, λ h. refl)
 clear-tests true false true false e = (refl, λ h. refl, λ h. refl)
@@ -319,4 +319,4 @@ module _ (f : List ℕ) (m : Module) (bias : ℕ) where
 
   pub walk-refused : (q : Refusal) → walkOf f m bias ≡ bad q → relocationsCheck f m ≡ bad q
   unfolding walkOf
-  walk-refused q e = andThen-bad (relocationsCheck f m) _ e (λ r. r) (λ _ _ r. absurd (let z : _≡_ {A = ℕ} 0 1 = cc in omega arith))
+  walk-refused q e = andThen-bad (relocationsCheck f m) _ e (λ r. r) (λ _ _ r. search never)

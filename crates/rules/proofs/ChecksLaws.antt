@@ -1,13 +1,12 @@
 -- Lists of checks: every one passes, or the first that does not is answered; and checks in a row as such a list.
 -- Assumes nothing.
-use Prim.Native.Nat.{ℕ}
 use mathlib.Core.Path.{_≡_, refl}
 use mathlib.Core.List.{List, [], _∷_, _++_}
 use mathlib.Core.Logic.{inl, inr}
-use native.Mathlib.Omega.{arith}
 use Rattle.rules.specs.Outcome.{Outcome, good, bad, andThen, found, passed}
 use Rattle.rules.specs.Checks.{Check, runs, checked, All, First}
 use Rattle.rules.specs.declared.Refusal.{Refusal}
+use Rattle.rules.proofs.OutcomeLaws.{good-bad, bad-good}
 
 -- ---- of any list of checks
 
@@ -18,7 +17,7 @@ all-runs (c ∷ cs) a = let h = all-runs cs (a .1) in rw (a .0, h)
 pub runs-all : (cs : List Check) → runs cs ≡ good tt → All cs
 runs-all [] e = tt
 runs-all (good u ∷ cs) e = (refl, runs-all cs e)
-runs-all (bad r ∷ cs) e = absurd (let z : _≡_ {A = ℕ} 0 1 = cc in omega arith)
+runs-all (bad r ∷ cs) e = bad-good e
 
 pub first-runs : {r : Refusal} (cs : List Check) → First cs r → runs cs ≡ bad r
 first-runs [] a = absurd a
@@ -26,7 +25,7 @@ first-runs (c ∷ cs) (inl e) = rw e
 first-runs (c ∷ cs) (inr a) = let h = first-runs cs (a .1) in rw (a .0, h)
 
 pub runs-first : {r : Refusal} (cs : List Check) → runs cs ≡ bad r → First cs r
-runs-first [] e = absurd (let z : _≡_ {A = ℕ} 0 1 = cc in omega arith)
+runs-first [] e = good-bad e
 runs-first (good u ∷ cs) e = inr (refl, runs-first cs e)
 runs-first (bad q ∷ cs) e = inl (cc)
 

@@ -1,16 +1,17 @@
 -- Laws of `first`, `someBelow` and `countBelow`.
 -- Assumes nothing.
 use Prim.Native.Nat.{ℕ, zero, suc, _+_, _-_, _≤_, _<_}
-use mathlib.Core.Path.{_≡_, refl, _∙_}
+use mathlib.Core.Path.{_≡_, refl, sym, _∙_}
 use mathlib.Core.Bool.{Bool, true, false, cond}
 use mathlib.Core.Logic.{⊎-elim}
 use native.Mathlib.Nat.{eq-or-lt-of-le, add-zero, zero-add}
 use native.Mathlib.Numerals.{add-one}
 use native.Mathlib.Omega.{arith}
 use lib.Dec.{eqb}
-use borrow.Author.Tests.{lt-ltb, le-ltb, eq-eqb, ne-eqb}
+use borrow.Author.Tests.{ltb-false, lt-ltb, le-ltb, eq-eqb, ne-eqb}
 use Rattle.rules.specs.Outcome.{good, refuse}
 use Rattle.rules.specs.First.{first, someBelow, countBelow, faultless}
+use Rattle.rules.proofs.OutcomeLaws.{true-false}
 
 module _ (f : ℕ → Bool) where
   -- for a loop whose invariant is first f 0 n ≡ first f i (n - i)
@@ -70,6 +71,17 @@ module _ (f : ℕ → Bool) where
   -- a hit makes some
   pub some-hit : (n i : ℕ) → i < n → first f 0 n ≡ i → someBelow f n ≡ true
   some-hit n i l e = lt-ltb (first f 0 n) n (omega arith)
+
+  -- so does an index at which it holds
+  pub at-some : (n i : ℕ) → i < n → f i ≡ true → someBelow f n ≡ true
+  at-some n i l e = go (someBelow f n) refl
+    where
+      go : (b : Bool) → someBelow f n ≡ b → someBelow f n ≡ true
+      go true q = q
+      go false q =
+          let past = ltb-false (first f 0 n) n q in
+          let none = first-below n 0 i (omega arith) (omega arith) in
+          true-false (sym e ∙ none)
 
   pub some-none : (n : ℕ) → first f 0 n ≡ n → someBelow f n ≡ false
   some-none n e = le-ltb (first f 0 n) n (omega arith)

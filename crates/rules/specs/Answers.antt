@@ -5,7 +5,7 @@ use mathlib.Core.Bool.{cond}
 use mathlib.Core.List.{List}
 use lib.ListN.{length}
 use lib.IntN.{ℤ}
-use Rattle.rules.specs.Outcome.{Outcome, good, bad}
+use Rattle.rules.specs.Outcome.{Outcome, good, bad, mapped}
 use Rattle.rules.specs.Descriptors.{Read, finished, global}
 use Rattle.rules.specs.Addresses.{outOfRange, natural}
 use Rattle.rules.specs.declared.Headers.{Headers}
@@ -70,8 +70,7 @@ ofGlobals (globals.Refused r) = bad r
 
 -- how many globals there are
 abbrev pub countOf : Outcome (List Global) → Outcome ℕ
-countOf (good gs) = good (length gs)
-countOf (bad r) = bad r
+countOf o = mapped length o
 
 abbrev pub ofModule : ModuleAnswer → Outcome Module
 ofModule (module-answer.Found m) = good m

@@ -2,7 +2,7 @@
 -- Assumes nothing.
 use Prim.Native.Nat.{ℕ}
 use mathlib.Core.List.{List, [], _∷_, _++_}
-use Rattle.rules.specs.Outcome.{Outcome, good, bad}
+use Rattle.rules.specs.Outcome.{Outcome, good, bad, mapped}
 use Rattle.rules.specs.Checks.{Check, checked}
 use Rattle.rules.specs.Reader.{theModule, readerChecks}
 use Rattle.rules.specs.Relocations.{placeAt, live, items}
@@ -58,8 +58,7 @@ loadOf f bias n p choices = checked (loadChecks f bias n p choices) (loaded f (t
 
 -- the answer of the call: the facts of a load that is taken
 abbrev pub factsAfter : Outcome Loaded → Outcome Facts
-factsAfter (good l) = good (l .facts)
-factsAfter (bad r) = bad r
+factsAfter o = mapped (λ l. l .facts) o
 
 -- memory and plane after the call: as lent where it is refused
 abbrev pub memoryAfter : Outcome Loaded → List ℕ → List ℕ

@@ -25,10 +25,14 @@ abbrev pub found : {A : Type 0} → A → Outcome A → A
 found other (good a) = a
 found other (bad r) = other
 
+-- a check by something of what it finds
+abbrev pub mapped : {A B : Type 0} → (A → B) → Outcome A → Outcome B
+mapped g (good a) = good (g a)
+mapped g (bad r) = bad r
+
 -- a check that finds something: does it pass
 abbrev pub passed : {A : Type 0} → Outcome A → Outcome (Unit {0})
-passed (good a) = good tt
-passed (bad r) = bad r
+passed o = mapped (λ _. tt) o
 
 -- a test, refused with a number and position where it does not hold
 abbrev pub require : Bool → ℕ → ℕ → Outcome (Unit {0})

@@ -39,7 +39,7 @@ const SIZES: u64 = 8;
 const SIZE_OFFSET: u64 = 1;
 
 // The limit of addresses in granules; no global ends above it.
-const GRANULE_LIMIT: u64 = 17592186044416;
+const GRANULE_LIMIT: u64 = ADDRESS_LIMIT / GRANULE;
 
 // The refusal numbers of checks 8 and 9.
 const BAD_DESCRIPTOR: u8 = 8;

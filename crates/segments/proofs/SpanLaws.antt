@@ -12,21 +12,10 @@ use Rattle.rules.specs.First.{first, someBelow}
 use Rattle.rules.specs.Segments.{headerAt, isLoad, writable, covers, holds, holdsAt, inMemory}
 use Rattle.rules.specs.declared.Headers.{Headers}
 use Rattle.rules.specs.declared.Segment.{Segment}
-use Rattle.rules.proofs.FirstLaws.{first-le, first-all, some-hit}
+use Rattle.rules.proofs.FirstLaws.{at-some}
 use Rattle.rules.proofs.OutcomeLaws.{and-left, and-right}
 use Rattle.segments.specs.Spans.{Sound, Held}
 use Rattle.segments.specs.declared.Span.{Span}
-
--- a test that holds at an index makes some
-pub some-at : (f : ℕ → Bool) (n i : ℕ) → i < n → f i ≡ true → someBelow f n ≡ true
-some-at f n i l e =
-    let most : first f 0 n ≤ n = omega (arith, first-le f n 0) in
-    ⊎-elim
-    (λ (s : first f 0 n ≡ n).
-    let no : f i ≡ false = first-all f n 0 (s ∙ omega arith) i (omega arith) (omega arith) in
-    absurd (let z : _≡_ {A = ℕ} 0 1 = cc in omega arith))
-    (λ (s : first f 0 n < n). some-hit f n (first f 0 n) s refl)
-    (eq-or-lt-of-le most)
 
 -- a holder of bytes covers them
 held-covers : (write : Bool) (a n : ℕ) (s : Segment) → holds write a n s ≡ true → covers (s .vaddr) (s .memsz) a n ≡ true
@@ -70,10 +59,10 @@ module _ (f : List ℕ) (h : Headers) (write : Bool) where
       let full = covers-some (s .vaddr) (s .memsz) a n l (held-covers write a n s hit) in
       record {
         sound = record {
-          within = λ _ x k q. some-at (holdsAt f h write x k) (h .count) i m (rw (← e) (held-too write a n x k s hit q));
+          within = λ _ x k q. at-some (holdsAt f h write x k) (h .count) i m (rw (← e) (held-too write a n x k s hit q));
         };
         none = λ z. absurd (omega arith);
-        some = λ _. some-at (holdsAt f h write a n) (h .count) i m b;
+        some = λ _. at-some (holdsAt f h write a n) (h .count) i m b;
       }
 
   -- none does

@@ -15,11 +15,12 @@ use Rattle.rules.specs.declared.Headers.{Headers}
 use Rattle.rules.specs.declared.Backing.the-variants.{At, Nowhere}
 use Rattle.rules.proofs.FirstLaws.{first-true}
 use Rattle.segments.proofs.Laws.{backs-inside}
+use Rattle.rules.proofs.OutcomeLaws.{never}
 
 -- a test with nowhere behind it: where there is a backing the test held
 somewhere : (b : Bool) (x at : ℕ) → cond b (At x) Nowhere ≡ At at → b ≡ true
 somewhere true x at h = refl
-somewhere false x at h = absurd (let z : _≡_ {A = ℕ} 0 1 = cc in omega arith)
+somewhere false x at h = search never
 
 -- what is backed has at most as many bytes as a file
 pub backed-size : (f : List ℕ) (h : Headers) (a n at : ℕ) → backingOf f h a n ≡ At at → n ≤ fileLimit

@@ -21,11 +21,12 @@ use Rattle.rules.specs.declared.Global.{Global}
 use Rattle.rules.specs.declared.Cursor.{Cursor}
 use Rattle.laws.proofs.Globals.{Walk, walk-start, walk-step}
 use Rattle.tags.specs.Walks.{badAfter, choicesFrom, taggedFrom}
+use Rattle.rules.proofs.OutcomeLaws.{never}
 
 -- globals that were counted are there, as many as the count
 pub counted : (x : Outcome (List Global)) (n : ℕ) → countOf x ≡ good n → (x ≡ good (listOf x)) × (length (listOf x) ≡ n)
 counted (good gs) n e = (refl, cc)
-counted (bad r) n e = absurd (let z : _≡_ {A = ℕ} 0 1 = cc in omega arith)
+counted (bad r) n e = search never
 
 -- ---- check 14
 
