@@ -40,4 +40,5 @@ load-cases-hold = record {
   lending = refl;
   addresses = refl;
   choices = refl;
+  plain-answers = refl;
 }

@@ -5,14 +5,14 @@ use Prim.Native.Nat.{ℕ, _+_, _-_, _^_}
 use mathlib.Core.Path.{_≡_}
 use mathlib.Core.List.{List, [], _∷_, _++_, map}
 use lib.ListN.{replicate}
-use Rattle.rules.specs.Outcome.{Outcome, good, refuse}
+use Rattle.rules.specs.Outcome.{Outcome, good, refuse, passed}
 use Rattle.rules.specs.Memory.{put, bytesOf}
 use Rattle.rules.specs.Load.{Loaded, loadOf, factsAfter}
 use Rattle.rules.specs.declared.Facts.{Facts}
 use Rattle.rules.specs.declared.Mode.the-variants as mode
 use Rattle.rules.specs.declared.Switch.the-variants as switch
 use Rattle.demands.specs.Plain.{plainOf}
-use Rattle.file_cases.specs.Sample.{joined, dynamicEntry, minus, front, others, sample, with, header, dynamic, symbol, entry}
+use Rattle.file_cases.specs.Sample.{joined, dynamicEntry, minus, front, others, sample, with, header, dynamic, symbol, entry, descriptor}
 
 -- ---- the module as it is loaded
 
@@ -125,6 +125,37 @@ abbrev pub Answered : List Case → Type 0
 Answered cases =
     map (λ (c : Case). factsAfter (loadOf (c .file) (c .bias) (c .memory) (c .plane) (c .choices))) cases ≡ map (λ (c : Case). c .says) cases
 
+-- ---- the plain loader
+
+pub record PlainCase : Type 0 where
+  pub file : List ℕ
+  pub bias : ℕ
+  pub says : Outcome (Unit {0})
+
+abbrev bare : List ℕ → ℕ → Outcome (Unit {0}) → PlainCase
+bare file at says = record { file = file; bias = at; says = says }
+
+-- an entry of a tag and a value where the first DT_NULL was
+abbrev withTag : ℕ → ℕ → List ℕ
+withTag tag value = put sample (dynamic 7) (dynamicEntry tag value)
+
+-- RELR; 6 before 11; 11 before 12, 12 before 13, and 13; what it knows nothing of: a mode of 2, a descriptor cut short
+abbrev pub plainCases : List PlainCase
+plainCases =
+    bare (withTag 36 0) bias (refuse 6 7)
+    ∷ bare (with (withTag 36 0) (entry 0) 8 660) bias (refuse 6 7)
+    ∷ bare (with sample (entry 0) 8 660) 0x40000800 (refuse 11 0)
+    ∷ bare (with sample (entry 0 + 16) 8 (minus 0x40000001)) 0x40000800 (refuse 12 0)
+    ∷ bare (with sample (entry 0 + 16) 8 (minus 0x40000001)) bias (refuse 13 0)
+    ∷ bare (withTag 0x70000009 2) bias (good tt)
+    ∷ bare (with sample (descriptor 3) 1 0x80) bias (good tt)
+    ∷ []
+
+abbrev pub PlainAnswered : List PlainCase → Type 0
+PlainAnswered cases = map (λ (c : PlainCase). passed (plainOf (c .file) (c .bias) 720)) cases ≡ map (λ (c : PlainCase). c .says) cases
+
+-- ---- the claim
+
 -- the module is loaded, the plain loader leaves its words bare, and each case holds
 pub record LoadCasesHold : Type 0 where
   pub load : loadOf sample bias 720 45 (5 ∷ 9 ∷ 3 ∷ []) ≡ good sampleLoaded
@@ -133,3 +164,4 @@ pub record LoadCasesHold : Type 0 where
   pub lending : Answered lendingCases
   pub addresses : Answered addressCases
   pub choices : Answered choiceCases
+  pub plain-answers : PlainAnswered plainCases
