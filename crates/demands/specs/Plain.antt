@@ -27,7 +27,7 @@ use Rattle.rules.specs.declared.Entry.{Entry}
 use Rattle.rules.specs.declared.Entry.the-variants.{Absent, Value}
 use Rattle.rules.specs.declared.Module.{Module}
 
--- m with the bytes s from a place on, and no other byte changed
+-- m with the bytes s from a position on, and no other byte changed
 abbrev pub store : List ℕ → ℕ → List ℕ → List ℕ
 store m at s = take at m ++ (s ++ drop (at + length s) m)
 

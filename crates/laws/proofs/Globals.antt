@@ -132,7 +132,7 @@ module _ (f : List ℕ) (h : Headers) (s : List ℕ) (passed : loadsCheck f h �
 
 -- ---- of any two globals in a chain
 
--- a global in its place
+-- a global of a chain
 pub record Placed (limit end : ℕ) (g : Global) : Type 0 where
   pub starts : end ≤ g .start
   pub aligned : g .start % 16 ≡ 0
