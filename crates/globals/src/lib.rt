@@ -28,11 +28,10 @@ fn finish(table: &[u8], c: Cursor, i: u32) -> GlobalsAnswer
     ensures { λ r. ⌜ ofGlobals r ≡ andThen (stepAt i (now (table .entry)) c) (λ _. good i) ⌝ }
 {
     let step = c.step(table, i as u64);
-    match step {
-        Step::Finished => GlobalsAnswer::Found(i),
-        Step::Global(_, _) => GlobalsAnswer::Found(i),
-        Step::Refused(r) => GlobalsAnswer::Refused(r),
-    }
+    let Step::Refused(r) = step else {
+        return GlobalsAnswer::Found(i);
+    };
+    GlobalsAnswer::Refused(r)
 }
 
 // The walk over a table: read one descriptor, check its range, go on. The PT_LOAD found last is asked first.

@@ -14,6 +14,7 @@ use rules::HEADER_LIMIT;
 use rules::Headers;
 use rules::HeadersAnswer;
 use rules::MEMORY_LIMIT;
+use rules::NEVER;
 use rules::Refusal;
 use rules::Segment;
 use segments::PT_LOAD;
@@ -135,13 +136,16 @@ pub fn read_headers(f: &[u8]) -> HeadersAnswer
     ensures { λ r. ⌜ ofHeaders r ≡ headersOf (now (f .entry)) ⌝ }
 {
     let file = check_file(f);
-    match file {
-        Checked::Passed => HeadersAnswer::Found(Headers {
-            table: reads::read64(f, 32) as u32,
-            count: reads::read16(f, 56) as u32,
-        }),
-        Checked::Refused(r) => HeadersAnswer::Refused(r),
-    }
+    let Checked::Passed = file else {
+        let Checked::Refused(r) = file else {
+            return HeadersAnswer::Refused(NEVER);
+        };
+        return HeadersAnswer::Refused(r);
+    };
+    HeadersAnswer::Found(Headers {
+        table: reads::read64(f, 32) as u32,
+        count: reads::read16(f, 56) as u32,
+    })
 }
 
 // A power of two below 2^64.

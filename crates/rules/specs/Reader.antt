@@ -39,16 +39,29 @@ theModule f = record {
   globals = length (theGlobals f);
 }
 
--- checks 1 to 9 in their order; 7 is two, and 8 and 9 are one walk
+-- check 5; check 7 of each table; checks 8 and 9, one walk
+abbrev pub dynamicCheck : List ℕ → Check
+dynamicCheck f = passed (dynamicOf f (theHeaders f))
+
+abbrev pub relocationTableCheck : List ℕ → Check
+relocationTableCheck f = passed (relocationsOf f (theHeaders f) (theDynamic f))
+
+abbrev pub descriptorTableCheck : List ℕ → Check
+descriptorTableCheck f = passed (descriptorsOf f (theHeaders f) (theDynamic f))
+
+abbrev pub globalsCheck : List ℕ → Check
+globalsCheck f = passed (globalsOf f (theHeaders f) (theDescriptors f))
+
+-- checks 1 to 9 in their order
 abbrev pub readerChecks : List ℕ → List Check
 readerChecks f =
     headerChecks f
     ++ (loadsCheck f (theHeaders f)
-    ∷ passed (dynamicOf f (theHeaders f))
+    ∷ dynamicCheck f
     ∷ entriesCheck knownTags f (theDynamic f)
-    ∷ passed (relocationsOf f (theHeaders f) (theDynamic f))
-    ∷ passed (descriptorsOf f (theHeaders f) (theDynamic f))
-    ∷ passed (globalsOf f (theHeaders f) (theDescriptors f))
+    ∷ relocationTableCheck f
+    ∷ descriptorTableCheck f
+    ∷ globalsCheck f
     ∷ [])
 
 -- the module of a file that passes them

@@ -8,6 +8,12 @@ use Rattle.headers.proofs.Laws.{table-within}
 use Rattle.headers.proofs.read_headers.Statement.{statement}
 use Rattle.headers.proofs.read_headers.Tie as tie
 
+returns-2 : tie.Need-returns-2
+unfolding headersOf
+returns-2 c =
+    let refused = c .before .before .before .before in
+    rw (← refused .before .before .check-file .ensures, refused .file .given .1) (cc)
+
 cast-t6 : tie.Need-cast-t6
 cast-t6 c =
     let passed = c .before in
@@ -15,19 +21,15 @@ cast-t6 c =
     let h = table-within (tried .before .before .args .f .now) (sym (rw (passed .enum-told .given .1) at (tried .check-file .ensures))) in
     omega (arith, c .read64 .ensures)
 
-returns : tie.Need-returns
+returns-3 : tie.Need-returns-3
 unfolding headersOf
-returns c =
+returns-3 c =
     let table = c .before in
     let passed = table .before in
     rw (← passed .before .before .check-file .ensures, passed .enum-told .given .1, table .read64 .ensures, c .read16 .ensures)
 
-returns-2 : tie.Need-returns-2
-unfolding headersOf
-returns-2 c =
-    let refused = c .before in
-    rw (← refused .before .before .check-file .ensures, refused .file .given .1)
-
 pub read-headers-spec : {M : Type 1} → statement M
 read-headers-spec =
-    tie.close (tie.spec (search needs) (search needs) (search needs) cast-t6 (search needs) (search needs) (search needs) returns returns-2)
+    tie.close
+    (tie.spec (search needs) (search needs) (search needs) (search needs) (search needs) (λ c. search needs) returns-2 (search needs) cast-t6
+    (search needs) (search needs) returns-3)
