@@ -35,4 +35,5 @@ file-cases-hold = record {
   descriptors = refl;
   symbols = refl;
   places = refl;
+  order = refl;
 }

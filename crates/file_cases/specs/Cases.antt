@@ -127,6 +127,20 @@ placeCases =
     ∷ refused (with (with sample (entry 0) 8 660) (entry 1 + 8) 4 1026) 11 0
     ∷ []
 
+-- the order, where two checks refuse: 1 before 2, 3 before 4, 4 before 5, 5 before 6, 6 before 7, 7 before 8, 8 and 9 before 10; that of 2 and
+-- 3, of both tables of 7, and of 10 and 11 stands above
+abbrev pub orderCases : List Case
+orderCases =
+    refused (take 63 (with sample 0 1 0x7e)) 1 0
+    ∷ refused (with (with sample 16 2 2) (header 1 + 40) 8 47) 3 0
+    ∷ refused (with (with sample (header 1 + 40) 8 47) (header 2) 4 4) 4 1
+    ∷ refused (with (with sample (header 2 + 32) 8 168) (dynamic 1 + 8) 8 25) 5 2
+    ∷ refused (with (with sample (dynamic 1 + 8) 8 25) (dynamic 2 + 8) 8 520) 6 1
+    ∷ refused (with (with sample (dynamic 2 + 8) 8 520) (descriptor 3) 1 0x08) 7 0
+    ∷ refused (with (with sample (descriptor 3) 1 0x08) (entry 0 + 8) 4 1026) 8 2
+    ∷ refused (with (with sample (descriptor 3) 1 0x11) (entry 0 + 8) 4 1026) 9 2
+    ∷ []
+
 -- each case of a list is refused as it says, by the reader; or by examine
 abbrev pub Read : List Case → Type 0
 Read cases = map (λ (c : Case). moduleOf (c .file)) cases ≡ map (λ (c : Case). refuse (c .number) (c .position)) cases
@@ -160,3 +174,4 @@ pub record FileCasesHold : Type 0 where
   pub descriptors : Read descriptorCases
   pub symbols : Examined symbolCases
   pub places : Examined placeCases
+  pub order : Examined orderCases
