@@ -1,12 +1,11 @@
 -- A call is taken exactly when every check of its list passes, and refused exactly by the first that does not.
 -- Assumes nothing.
 use Prim.Native.Nat.{ℕ}
-use mathlib.Core.Path.{_≡_, refl, sym, ap, _∙_}
+use mathlib.Core.Path.{_≡_, sym, ap, _∙_}
 use mathlib.Core.Bool.{true, _&&_}
-use mathlib.Core.List.{List, []}
-use native.Mathlib.Omega.{arith}
-use Rattle.rules.specs.Outcome.{good, bad, andThen, require}
-use Rattle.rules.specs.Checks.{Check, runs, checked, All}
+use mathlib.Core.List.{List}
+use Rattle.rules.specs.Outcome.{good, bad}
+use Rattle.rules.specs.Checks.{Check, runs, checked}
 use Rattle.rules.specs.Segments.{loadsEnd}
 use Rattle.rules.specs.Reader.{theModule, readerChecks, moduleOf}
 use Rattle.rules.specs.Relocations.{relocationsCheck}
@@ -17,7 +16,7 @@ use Rattle.rules.specs.Choices.{choicesCheck}
 use Rattle.rules.specs.Load.{Loaded, loadOf, loaded, callChecks, loadChecks}
 use Rattle.rules.specs.declared.Refusal.{Refusal}
 use Rattle.rules.specs.declared.Module.{Module}
-use Rattle.rules.proofs.OutcomeLaws.{good-bad, never, and-left, and-right, require-held, require-true, andThen-good}
+use Rattle.rules.proofs.OutcomeLaws.{good-bad, never, and-left, and-right, require-held, andThen-good}
 use Rattle.rules.proofs.ChecksLaws.{all-runs, runs-all, first-runs, runs-first}
 use Rattle.laws.proofs.Checks.{andThen-bad}
 use Rattle.laws.proofs.Stages.{examined-stages, load-stages}

@@ -1,21 +1,19 @@
 -- What the reader has found in a file that it takes.
 -- Assumes nothing.
 use Prim.Native.Nat.{ℕ}
-use mathlib.Core.Path.{_≡_, refl, sym, ap, _∙_}
+use mathlib.Core.Path.{_≡_, refl}
 use mathlib.Core.List.{List}
-use native.Mathlib.Omega.{arith}
 use lib.ListN.{length}
 use Rattle.rules.specs.Outcome.{Outcome, good, bad, found, passed}
 use Rattle.rules.specs.Checks.{All}
-use Rattle.rules.specs.Headers.{headerChecks, theHeaders, headersOf}
+use Rattle.rules.specs.Headers.{theHeaders, headersOf}
 use Rattle.rules.specs.Segments.{loadsCheck}
 use Rattle.rules.specs.Dynamic.{dynamicOf, symtab, knownTags, entriesCheck, entryOf}
 use Rattle.rules.specs.Tables.{relocationsOf, descriptorsOf}
 use Rattle.rules.specs.Descriptors.{globalsOf}
-use Rattle.rules.specs.Reader.{theDynamic, theRelocations, theDescriptors, theGlobals, theModule, readerChecks, moduleOf}
+use Rattle.rules.specs.Reader.{theDynamic, theDescriptors, theModule, readerChecks, moduleOf}
 use Rattle.rules.specs.Choices.{globalsIn}
 use Rattle.rules.specs.declared.Module.{Module}
-use Rattle.laws.proofs.Checks.{good-same}
 use Rattle.demands.proofs.Exactly.{exactly-read}
 use Rattle.rules.proofs.OutcomeLaws.{never}
 

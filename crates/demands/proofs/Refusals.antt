@@ -19,7 +19,7 @@ use Rattle.rules.specs.Segments.{badLoad}
 use Rattle.rules.specs.Dynamic.{nullEntry, goodSize, dynamicAt, firstDynamic, secondDynamic, dynamicOf}
 use Rattle.rules.specs.Tables.{tableBacking, backed, relaAddress, relaBytes, relocationsOf}
 use Rattle.rules.specs.Descriptors.{globalsOf, descriptorTable}
-use Rattle.rules.specs.Reader.{theDynamic, theRelocations, theDescriptors, theModule, readerChecks, moduleOf}
+use Rattle.rules.specs.Reader.{theDynamic, theDescriptors, theModule, readerChecks, moduleOf}
 use Rattle.rules.specs.Relocations.{live, items, relocationsCheck, wordsOf}
 use Rattle.rules.specs.Examine.{factsOf, moduleChecks, examineChecks, examinedOf}
 use Rattle.rules.specs.Addresses.{badAddress}

@@ -37,8 +37,8 @@ use Rattle.rules.specs.declared.Cursor.{Cursor}
 use Rattle.rules.specs.declared.Module.{Module}
 use Rattle.rules.proofs.FirstLaws.{first-le, at-some}
 use Rattle.rules.proofs.OutcomeLaws.{good-bad, never, require-held}
-use Rattle.laws.proofs.Checks.{andThen-bad, require-stopped, faultless-all, all-faultless, some-at, some-all}
-use Rattle.demands.proofs.Lowest.{not-both, cond-bad, lowest-first, first-lowest, clear-first, first-clear, faultless-lowest, lowest-faultless}
+use Rattle.laws.proofs.Checks.{andThen-bad, require-stopped, faultless-all, all-faultless, some-at}
+use Rattle.demands.proofs.Lowest.{cond-bad, lowest-first, first-lowest, clear-first, first-clear, faultless-lowest, lowest-faultless}
 use Rattle.demands.specs.Table.{listed, Lowest, Reaches, Row, Table}
 use Rattle.demands.specs.Table.{DynamicFault, no-dynamic, second-dynamic, bad-dynamic, EntryFault, bad-entry, no-partner, Unread}
 use Rattle.demands.specs.Table.{GlobalFault, ends-high, outside-loads, left-over, ItemAt, ChoiceFault, wrong-number, bad-choice}

@@ -2,7 +2,6 @@
 -- Assumes nothing.
 use Prim.Native.Nat.{ℕ, suc, _+_, _*_, _≤_, _<_}
 use mathlib.Core.Path.{_≡_, refl, sym, ap, _∙_}
-use mathlib.Core.Bool.{true}
 use mathlib.Core.List.{List, []}
 use mathlib.Core.Logic.{inl, inr, ⊎-elim}
 use native.Mathlib.Nat.{eq-or-lt-of-le}
@@ -15,7 +14,6 @@ use Rattle.rules.specs.Relocations.{placeAt, live, items}
 use Rattle.rules.specs.Addresses.{natural, addressAt}
 use Rattle.rules.specs.Choices.{globalsIn, globalAt, endOf, choicesFor}
 use Rattle.rules.specs.Image.{imageOf}
-use Rattle.rules.specs.Plane.{planeOf}
 use Rattle.rules.specs.Words.{sourceAt, writes}
 use Rattle.rules.specs.Load.{loadOf, loaded}
 use Rattle.rules.specs.Memory.{bytesOf}
@@ -28,7 +26,6 @@ use Rattle.laws.proofs.Globals.{Rising}
 use Rattle.laws.proofs.Writes.{writes-length, writes-agree, writes-at, low-bytes, top-byte, bare-byte}
 use Rattle.demands.proofs.Exactly.{Passes, passes-taken, passes-fits, load-refused}
 use Rattle.demands.proofs.Plane.{Chosen, plane-holds, plane-empty}
-use Rattle.demands.proofs.Image.{image-size}
 use Rattle.demands.proofs.Table.{table}
 use Rattle.demands.proofs.Refusals.{listed-one}
 use Rattle.demands.proofs.Plain.{segments-same, bare-checked, bare-words, passed-of, plain-module, plain-memory}

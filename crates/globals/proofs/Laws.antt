@@ -1,9 +1,9 @@
 -- The count of globals, one descriptor at a time.
 -- Assumes nothing.
-use Prim.Native.Nat.{ℕ, zero, suc, _+_, _*_, _-_, _≤_, _<_}
+use Prim.Native.Nat.{ℕ, suc, _+_, _*_, _-_, _≤_, _<_}
 use mathlib.Core.Path.{_≡_, refl, sym, ap, _∙_}
-use mathlib.Core.Bool.{true, false, cond}
-use mathlib.Core.List.{List, [], _∷_}
+use mathlib.Core.Bool.{true, false}
+use mathlib.Core.List.{List, _∷_}
 use native.Mathlib.Omega.{arith}
 use lib.ListN.{length}
 use borrow.Author.Tests.{lt-ltb, le-ltb}
@@ -17,7 +17,7 @@ use Rattle.rules.specs.declared.Global.{Global}
 use Rattle.rules.specs.declared.Cursor.{Cursor}
 use Rattle.rules.specs.declared.Reading.{Reading}
 use Rattle.laws.proofs.Globals.{step-next}
-use Rattle.segments.specs.Spans.{Sound, Held}
+use Rattle.segments.specs.Spans.{Sound}
 use Rattle.segments.specs.declared.Span.{Span}
 use Rattle.segments.proofs.SpanLaws.{sound-none}
 use Rattle.descriptors.proofs.Laws.{reading-global, reading-none}

@@ -1,31 +1,25 @@
 -- The calls by their stages: each check on what the checks before it found.
 -- Assumes nothing.
 use Prim.Native.Nat.{ℕ}
-use mathlib.Core.Path.{_≡_, refl, sym, _∙_}
+use mathlib.Core.Path.{_≡_, sym, _∙_}
 use mathlib.Core.List.{List, [], _++_}
 use lib.ListN.{length}
-use Rattle.rules.specs.Outcome.{Outcome, good, bad, andThen}
-use Rattle.rules.specs.Checks.{Check, runs, checked, All}
+use Rattle.rules.specs.Outcome.{good, andThen}
+use Rattle.rules.specs.Checks.{Check, checked}
 use Rattle.rules.specs.Headers.{headerChecks, theHeaders, headersOf}
 use Rattle.rules.specs.Segments.{loadsCheck}
 use Rattle.rules.specs.Dynamic.{dynamicOf, symtab, knownTags, entriesCheck, entryOf}
 use Rattle.rules.specs.Tables.{relocationsOf, descriptorsOf}
 use Rattle.rules.specs.Descriptors.{globalsOf}
 use Rattle.rules.specs.Reader.{theDynamic, theDescriptors, theModule, readerChecks, moduleOf}
-use Rattle.rules.specs.Relocations.{relocationsCheck}
 use Rattle.rules.specs.Examine.{factsOf, moduleChecks, examinedOf}
-use Rattle.rules.specs.Lending.{lendingCheck}
-use Rattle.rules.specs.Addresses.{addressesCheck}
-use Rattle.rules.specs.Choices.{globalsIn, choicesCheck}
-use Rattle.rules.specs.Load.{Loaded, loaded, callChecks, loadOf}
-use Rattle.rules.specs.declared.Refusal.{Refusal}
+use Rattle.rules.specs.Load.{loaded, callChecks, loadOf}
 use Rattle.rules.specs.declared.Headers.{Headers}
 use Rattle.rules.specs.declared.Dynamic.{Dynamic}
 use Rattle.rules.specs.declared.Relocations.{Relocations}
 use Rattle.rules.specs.declared.Descriptors.{Descriptors}
 use Rattle.rules.specs.declared.Module.{Module}
-use Rattle.rules.proofs.OutcomeLaws.{andThen-good}
-use Rattle.rules.proofs.ChecksLaws.{runs-all, checked-append, checked-then, done, link, test, lists}
+use Rattle.rules.proofs.ChecksLaws.{checked-append, checked-then, done, link, test, lists}
 
 -- ---- the reader
 

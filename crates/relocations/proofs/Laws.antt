@@ -14,7 +14,6 @@ use lib.Dec.{eqb}
 use lib.IntN.{ℤ}
 use borrow.Author.Tests.{eq-eqb, ne-eqb, eqb-true, lt-ltb, le-ltb}
 use Rattle.rules.specs.Outcome.{good, bad, refuse}
-use Rattle.rules.specs.Checks.{Check}
 use Rattle.rules.specs.Limits.{entryLimit}
 use Rattle.rules.specs.First.{first, someBelow, countBelow}
 use Rattle.rules.specs.Segments.{inMemory}

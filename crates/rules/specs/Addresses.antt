@@ -1,11 +1,10 @@
 -- Check 13: the address of each relocated word, the column Address of the table of kinds.
 -- Assumes nothing.
 use Prim.Native.Nat.{ℕ, _+_}
-use mathlib.Core.Bool.{Bool, true, cond, _&&_}
+use mathlib.Core.Bool.{Bool, true, _&&_}
 use mathlib.Core.List.{List}
-use lib.Dec.{leb, eqb}
+use lib.Dec.{leb}
 use lib.IntN.{ℤ, pos, negsuc, _+ℤ_}
-use Rattle.rules.specs.Outcome.{good, refuse}
 use Rattle.rules.specs.Checks.{Check}
 use Rattle.rules.specs.Limits.{addressLimit}
 use Rattle.rules.specs.First.{faultsAt}

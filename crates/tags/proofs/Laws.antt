@@ -1,7 +1,7 @@
 -- Where the globals are known, the walks are check 14 and the rules' plane.
 -- Assumes nothing.
 use Prim.Native.Nat.{ℕ, zero, suc, _+_, _-_, _<_}
-use mathlib.Core.Path.{_≡_, refl, sym, ap, _∙_}
+use mathlib.Core.Path.{_≡_, refl}
 use mathlib.Core.Bool.{Bool, true, false, cond}
 use mathlib.Core.List.{List}
 use native.Mathlib.Numerals.{add-one, sub-one}
@@ -11,7 +11,7 @@ use borrow.Author.Tests.{eq-eqb, ne-eqb}
 use Rattle.rules.specs.Outcome.{Outcome, good, bad, refuse}
 use Rattle.rules.specs.Checks.{Check}
 use Rattle.rules.specs.First.{first, faultAt}
-use Rattle.rules.specs.Descriptors.{stepAt, tableStart, descriptorTable, globalsOf}
+use Rattle.rules.specs.Descriptors.{tableStart, descriptorTable, globalsOf}
 use Rattle.rules.specs.Choices.{listOf, globalAt, endOf, badChoice, choicesFor}
 use Rattle.rules.specs.Plane.{putTag, tagged, planeOf}
 use Rattle.rules.specs.Answers.{countOf}

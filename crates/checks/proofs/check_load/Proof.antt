@@ -1,6 +1,6 @@
 -- The walk of the items, then checks 12 to 14; a refusal is passed up.
 -- Assumes nothing.
-use mathlib.Core.Path.{_≡_, sym, ap, _∙_}
+use mathlib.Core.Path.{sym, ap, _∙_}
 use Rattle.rules.specs.Outcome.{bad}
 use Rattle.demands.proofs.Refusals.{module-counted}
 use Rattle.relocations.proofs.Laws.{walk-found}

@@ -1,6 +1,6 @@
 -- The reader, then the walk, in their order; a refusal is passed up.
 -- Assumes nothing.
-use mathlib.Core.Path.{_≡_, sym, _∙_}
+use mathlib.Core.Path.{sym, _∙_}
 use Rattle.demands.proofs.Refusals.{module-counted}
 use Rattle.relocations.proofs.Laws.{walk-found}
 use Rattle.examine.proofs.Laws.{examined-unread, examined-refused, examined-taken}

@@ -1,12 +1,11 @@
 -- By what the step found: a refusal is passed up, anything else ends the walk.
 -- Assumes nothing.
 use Prim.Native.Nat.{ℕ}
-use mathlib.Core.Path.{_≡_, refl, sym, ap, _∙_}
+use mathlib.Core.Path.{_≡_, refl, sym}
 use mathlib.Core.List.{[], _∷_}
 use mathlib.Core.Logic.{⊎-elim}
 use native.Mathlib.Omega.{arith}
 use Rattle.rules.specs.Outcome.{good, andThen}
-use Rattle.rules.specs.Descriptors.{Read}
 use Rattle.rules.specs.Answers.{ofStep}
 use Rattle.rules.specs.declared.Step.{Step}
 use Rattle.rules.specs.declared.Step.the-variants as step
