@@ -1,33 +1,16 @@
--- The module by its stages, and the globals by their count.
+-- The module by its stages.
 -- Assumes nothing.
 use Prim.Native.Nat.{ℕ}
-use mathlib.Core.Path.{_≡_, refl}
+use mathlib.Core.Path.{_≡_}
 use mathlib.Core.List.{List}
-use lib.ListN.{length}
-use Rattle.rules.specs.Outcome.{Outcome, good, bad, andThen}
+use Rattle.rules.specs.Outcome.{andThen}
 use Rattle.rules.specs.Headers.{headersOf}
 use Rattle.rules.specs.Segments.{loadsCheck}
-use Rattle.rules.specs.Descriptors.{globalsOf}
-use Rattle.rules.specs.Answers.{countOf}
 use Rattle.rules.specs.Reader.{moduleOf}
-use Rattle.rules.specs.declared.Headers.{Headers}
-use Rattle.rules.specs.declared.Dynamic.{Dynamic}
-use Rattle.rules.specs.declared.Relocations.{Relocations}
-use Rattle.rules.specs.declared.Descriptors.{Descriptors}
-use Rattle.rules.specs.declared.Global.{Global}
-use Rattle.laws.proofs.Stages.{moduleWith, module-stages}
-use Rattle.elf.specs.Stages.{globalsStage, tablesStage, dynamicStage}
+use Rattle.laws.proofs.Stages.{module-stages}
+use Rattle.contents.specs.Stages.{globalsStage, tablesStage}
+use Rattle.elf.specs.Stages.{dynamicStage}
 
 pub module-dynamic : (f : List ℕ) → moduleOf f ≡ andThen (headersOf f) (λ h. andThen (loadsCheck f h) (λ _. dynamicStage f h))
 unfolding dynamicStage tablesStage globalsStage
 module-dynamic f = module-stages f
-
--- a check that goes on with the number of globals goes on with the count
-count-then : {B : Type 0} (o : Outcome (List Global)) (k : ℕ → Outcome B) → andThen o (λ gs. k (length gs)) ≡ andThen (countOf o) k
-count-then (good gs) k = refl
-count-then (bad r) k = refl
-
-pub globals-count : (f : List ℕ) (h : Headers) (d : Dynamic) (r : Relocations) (t : Descriptors)
-    → globalsStage f h d r t ≡ andThen (countOf (globalsOf f h t)) (λ n. good (moduleWith f h d r t n))
-unfolding globalsStage
-globals-count f h d r t = count-then (globalsOf f h t) (λ n. good (moduleWith f h d r t n))

@@ -4,10 +4,8 @@ ghost use Rattle.rules.specs.Examine.{examinedOf};
 ghost use Rattle.rules.specs.Descriptors.{stepAt};
 ghost use Rattle.demands.specs.Calls.{buffers};
 ghost use Rattle.packing.specs.Packed.{packed, packedFacts, stepNumber, stepWords};
-ghost use Rattle.hagolstan.specs.Exported.{Exported};
+ghost use Rattle.packing.specs.Exported.{Exported};
 use rules::Answer;
-use rules::Cursor;
-use rules::Step;
 
 // Examines a file: position × 256 + refusal number, or globals × 256.
 #[no_mangle]
@@ -69,21 +67,5 @@ pub extern "C" fn hagolstan_step(
     ensures answered { λ v. ⌜ v ≡ stepNumber (stepAt index (now (table .entry)) (record { position = position; end = end })) ⌝ }
     ensures written { λ _. ⌜ now (words .exit) ≡ stepWords (stepAt index (now (table .entry)) (record { position = position; end = end })) (now (words .entry)) ⌝ }
 {
-    let cursor = Cursor {
-        position: position,
-        end: end,
-    };
-    let step = cursor.step(table, index);
-    if let Step::Finished = step {
-        return 0;
-    }
-    let Step::Global(g, next) = step else {
-        let Step::Refused(r) = step else {
-            return 0;
-        };
-        memory::put64(words, 0, r.position);
-        return r.number as u64;
-    };
-    packing::write_global(words, g, next);
-    1
+    packing::step_number(table, position, end, index, words)
 }

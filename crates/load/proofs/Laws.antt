@@ -26,8 +26,8 @@ use Rattle.demands.proofs.Exactly.{Passes, checks-passes, passes-taken, load-un
 use Rattle.demands.proofs.Reading.{module-reads}
 use Rattle.demands.proofs.Image.{image-size, image-holds}
 use Rattle.demands.proofs.Standing.{passes-stands}
-use Rattle.placing.specs.Words.{wordIn}
-use Rattle.placing.proofs.WriteLaws.{relocated-writes}
+use Rattle.relocating.specs.Words.{wordIn}
+use Rattle.relocating.proofs.WriteLaws.{relocated-writes}
 use Rattle.tags.proofs.Laws.{plane-tagged}
 use Rattle.load.specs.Written.{writtenPlane, writtenMemory}
 

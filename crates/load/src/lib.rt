@@ -17,7 +17,7 @@ fn write_load(f: &[u8], m: Module, bias: u64, memory: &mut [u8], plane: &mut [u8
     let h = m.headers;
     placing::place_segments(f, h, memory);
     tags::tag_globals(f, m, choices, plane);
-    placing::relocate(f, m, bias, plane, memory);
+    relocating::relocate(f, m, bias, plane, memory);
 }
 
 // Loads a module into lent memory and tags its plane; a refusal leaves both as lent.

@@ -1,15 +1,16 @@
-// Answers as numbers and words: a refusal, the facts, a global that was read.
+// Answers as numbers and words: a refusal, the facts, a descriptor that was read.
 ghost use mathlib.Core.Path.{_≡_};
 ghost use Prim.Native.Nat.{_≤_};
 ghost use Rattle.rules.specs.Outcome.{good};
-ghost use Rattle.rules.specs.Descriptors.{global};
+ghost use Rattle.rules.specs.Descriptors.{global, stepAt};
 ghost use Rattle.demands.specs.Table.{positionLimit};
-ghost use Rattle.packing.specs.Packed.{packedRefusal, modeNumber, switchNumber, factsNumber, stepWords};
+ghost use Rattle.packing.specs.Packed.{packedRefusal, modeNumber, switchNumber, factsNumber, stepNumber, stepWords};
 use rules::Cursor;
 use rules::Facts;
 use rules::Global;
 use rules::Mode;
 use rules::Refusal;
+use rules::Step;
 use rules::Switch;
 
 // Where the counts stand in the facts as one number: globals from bit 8 on, words from bit 25.
@@ -61,11 +62,35 @@ pub fn facts_number(a: Facts) -> u64
 }
 
 // The words of a global that was read: its start and granules, and the moved cursor.
-pub fn write_global(words: &mut [u8], g: Global, next: Cursor)
+fn write_global(words: &mut [u8], g: Global, next: Cursor)
     ensures { λ _. ⌜ now (words .exit) ≡ stepWords (good (global g next)) (now (words .entry)) ⌝ }
 {
     memory::put64(words, 0, g.start);
     memory::put64(words, 8, g.granules);
     memory::put64(words, 16, next.position);
     memory::put64(words, 24, next.end);
+}
+
+// Reads one descriptor of a table: 0 finished, 1 a global, or the refusal number. Its words go to the lent bytes.
+pub fn step_number(table: &[u8], position: u64, end: u64, index: u64, words: &mut [u8]) -> u64
+    ensures answered { λ v. ⌜ v ≡ stepNumber (stepAt index (now (table .entry)) (record { position = position; end = end })) ⌝ }
+    ensures written { λ _. ⌜ now (words .exit) ≡ stepWords (stepAt index (now (table .entry)) (record { position = position; end = end })) (now (words .entry)) ⌝ }
+{
+    let cursor = Cursor {
+        position: position,
+        end: end,
+    };
+    let step = cursor.step(table, index);
+    if let Step::Finished = step {
+        return 0;
+    }
+    let Step::Global(g, next) = step else {
+        let Step::Refused(r) = step else {
+            return 0;
+        };
+        memory::put64(words, 0, r.position);
+        return r.number as u64;
+    };
+    write_global(words, g, next);
+    1
 }

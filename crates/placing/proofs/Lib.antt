@@ -1,2 +1,1 @@
 pub mod LendingLaws
-pub mod WriteLaws

@@ -1,0 +1,110 @@
+-- A refusal's number is from 1 to 255 and the counts fit seventeen bits, so the packed numbers can be taken apart.
+-- Assumes nothing.
+use Prim.Native.Nat.{ℕ, _/_, _%_, _≤_, _<_}
+use mathlib.Core.Path.{_≡_, refl, sym, subst}
+use mathlib.Core.Bool.{Bool, true, false, _&&_, _||_}
+use mathlib.Core.List.{List, [], _∷_}
+use native.Mathlib.Omega.{arith}
+use lib.Dec.{leb, ltb, eqb}
+use borrow.Author.Tests.{leb-true, ltb-true, eqb-true}
+use Rattle.rules.specs.Outcome.{Outcome, good, bad, refusal}
+use Rattle.rules.specs.declared.Refusal.{Refusal}
+use Rattle.rules.specs.declared.Facts.{Facts}
+use Rattle.rules.specs.declared.Mode.{Mode}
+use Rattle.rules.specs.declared.Mode.the-variants as mode
+use Rattle.rules.specs.declared.Switch.{Switch}
+use Rattle.rules.specs.declared.Switch.the-variants as switch
+use Rattle.rules.proofs.OutcomeLaws.{and-left, and-right}
+use Rattle.demands.specs.Table.{listed, loadNumbers}
+use Rattle.demands.specs.Calls.{Buffers, Call, Declined}
+use Rattle.demands.specs.Demands.{Counted}
+use Rattle.demands.proofs.Refusals.{examined-facts}
+use Rattle.demands.proofs.Calls.{calls}
+use Rattle.packing.specs.Packed.{packed, packedRefusal, modeNumber, switchNumber, factsNumber}
+use Rattle.packing.specs.Exported.{Told, ExportClaim, FactsTold, FactsClaim}
+
+-- every number of a list is from 1 to 255
+abbrev lowBytes : List ℕ → Bool
+lowBytes [] = true
+lowBytes (x ∷ xs) = (leb 1 x && ltb x 256) && lowBytes xs
+
+listed-low : (xs : List ℕ) (x : ℕ) → lowBytes xs ≡ true → listed xs x ≡ true → (1 ≤ x) × (x < 256)
+listed-low [] x h l = absurd (let z : _≡_ {A = ℕ} 0 1 = cc in omega arith)
+listed-low (y ∷ ys) x h l = go (eqb y x) refl l (listed-low ys x (and-right (leb 1 y && ltb y 256) _ h))
+  where
+    here : (leb 1 y && ltb y 256) ≡ true
+    here = and-left (leb 1 y && ltb y 256) _ h
+
+    go : (b : Bool) → eqb y x ≡ b → (b || listed ys x) ≡ true → (listed ys x ≡ true → (1 ≤ x) × (x < 256)) → (1 ≤ x) × (x < 256)
+    go false q k again = again k
+    go true q k again =
+        let e = eqb-true y x q in
+        let a = leb-true 1 y (and-left (leb 1 y) _ here) in
+        let b = ltb-true y 256 (and-right (leb 1 y) _ here) in
+        (omega arith, omega arith)
+
+module _ (f : List ℕ) (bias : ℕ) (choices : List ℕ) (lent left : Buffers) where
+  -- a refusal is its number's parts
+  parts : (r : Refusal) (number : ℕ) → number ≡ packedRefusal r → Declined f bias choices lent left r
+      → ((number % 256 ≡ 0) → ⊥) × (refusal (number % 256) (number / 256) ≡ r)
+  parts r number e d =
+      let n = listed-low loadNumbers (r .number) refl (d .numbered .number-listed) in
+      let low : number % 256 ≡ r .number = omega arith in
+      let high : number / 256 ≡ r .position = omega arith in
+      ((λ z. omega arith), rw (low, high))
+
+  told : (answer : Outcome Facts) (number : ℕ) → Call f bias choices lent left answer → number ≡ packed answer
+      → Told f bias choices lent left number
+  told (good a) number c e = record {
+    taken = λ z. record {
+      facts = a;
+      accepted = calls f bias choices lent left (good a) c .accepted a refl;
+      counted = omega arith;
+    };
+    refused = λ z. absurd (z (omega arith));
+  }
+  told (bad r) number c e =
+      let d = calls f bias choices lent left (bad r) c .declined r refl in
+      let p = parts r number e d in
+      record {
+        taken = λ z. absurd (p .0 z);
+        refused = λ z. subst (λ (r : Refusal). Declined f bias choices lent left r) (sym (p .1)) d;
+      }
+
+pub exported : ExportClaim
+exported f bias choices lent left number x = told f bias choices lent left (x .answer) number (x .call) (x .packs)
+
+-- ---- the facts
+
+mode-small : (m : Mode) → modeNumber m < 4
+mode-small mode.Absent = omega arith
+mode-small mode.Synchronous = omega arith
+mode-small mode.Asynchronous = omega arith
+
+switch-small : (s : Switch) → switchNumber s < 4
+switch-small switch.Absent = omega arith
+switch-small switch.Off = omega arith
+switch-small switch.On = omega arith
+
+facts-told : (a : Facts) → Counted a → FactsTold a (factsNumber a)
+facts-told a c =
+    let m = mode-small (a .mode) in
+    let h = switch-small (a .heap) in
+    let s = switch-small (a .stack) in
+    let g = c .globals-most in
+    let w = c .words-most in
+    record {
+      odd = omega arith;
+      mode = omega arith;
+      heap = omega arith;
+      stack = omega arith;
+      globals = omega arith;
+      words = omega arith;
+      above = omega arith;
+    }
+
+pub facts-exported : (f : List ℕ) → FactsClaim f
+facts-exported f = record {
+  taken = λ a e. rw e (facts-told a (examined-facts f a e));
+  refused = λ r e. rw e;
+}
