@@ -6,6 +6,7 @@ use mathlib.Core.Path.{_≡_}
 use mathlib.Core.List.{List, [], _∷_, _++_, map}
 use lib.ListN.{replicate}
 use Rattle.rules.specs.Outcome.{Outcome, good, refuse, passed}
+use Rattle.rules.specs.Checks.{Check}
 use Rattle.rules.specs.Memory.{put, bytesOf}
 use Rattle.rules.specs.Load.{Loaded, loadOf, factsAfter}
 use Rattle.rules.specs.declared.Facts.{Facts}
@@ -130,19 +131,23 @@ Answered cases =
 pub record PlainCase : Type 0 where
   pub file : List ℕ
   pub bias : ℕ
-  pub says : Outcome (Unit {0})
+  pub says : Check
 
-abbrev bare : List ℕ → ℕ → Outcome (Unit {0}) → PlainCase
+abbrev bare : List ℕ → ℕ → Check → PlainCase
 bare file at says = record { file = file; bias = at; says = says }
 
 -- an entry of a tag and a value where the first DT_NULL was
 abbrev withTag : ℕ → ℕ → List ℕ
 withTag tag value = put sample (dynamic 7) (dynamicEntry tag value)
 
--- RELR; 6 before 11; 11 before 12, 12 before 13, and 13; what it knows nothing of: a mode of 2, a descriptor cut short
+-- RELR; the order, where two checks refuse: 3 before 4, 4 before 5, 6 before 7 and 11, 11 before 12, 12 before 13; 13; what it knows nothing
+-- of: a mode of 2, a descriptor cut short
 abbrev pub plainCases : List PlainCase
 plainCases =
     bare (withTag 36 0) bias (refuse 6 7)
+    ∷ bare (with (with sample 16 2 2) (header 1 + 40) 8 47) bias (refuse 3 0)
+    ∷ bare (with (with sample (header 1 + 40) 8 47) (header 2) 4 4) bias (refuse 4 1)
+    ∷ bare (with (with sample (dynamic 1 + 8) 8 25) (dynamic 2 + 8) 8 520) bias (refuse 6 1)
     ∷ bare (with (withTag 36 0) (entry 0) 8 660) bias (refuse 6 7)
     ∷ bare (with sample (entry 0) 8 660) 0x40000800 (refuse 11 0)
     ∷ bare (with sample (entry 0 + 16) 8 (minus 0x40000001)) 0x40000800 (refuse 12 0)

@@ -6,6 +6,7 @@ use mathlib.Core.List.{List}
 use lib.ListN.{length}
 use lib.IntN.{ℤ}
 use Rattle.rules.specs.Outcome.{Outcome, good, bad, mapped}
+use Rattle.rules.specs.Checks.{Check}
 use Rattle.rules.specs.Descriptors.{Read, finished, global}
 use Rattle.rules.specs.Addresses.{outOfRange, natural}
 use Rattle.rules.specs.declared.Headers.{Headers}
@@ -39,7 +40,7 @@ use Rattle.rules.specs.declared.WalkAnswer.the-variants as walk
 use Rattle.rules.specs.declared.Address.{Address}
 use Rattle.rules.specs.declared.Address.the-variants as address
 
-abbrev pub ofChecked : Checked → Outcome (Unit {0})
+abbrev pub ofChecked : Checked → Check
 ofChecked checked.Passed = good tt
 ofChecked (checked.Refused r) = bad r
 

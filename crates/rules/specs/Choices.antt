@@ -2,23 +2,20 @@
 -- Assumes nothing.
 use Prim.Native.Nat.{ℕ, zero, suc, _+_, _*_, _-_}
 use mathlib.Core.Bool.{Bool, false, not, _&&_, _||_}
-use mathlib.Core.List.{List, []}
+use mathlib.Core.List.{List}
 use lib.ListN.{length, getD}
 use lib.Dec.{leb, eqb}
-use Rattle.rules.specs.Outcome.{Outcome, found, andThen, require}
+use Rattle.rules.specs.Outcome.{andThen, require}
 use Rattle.rules.specs.Checks.{Check}
 use Rattle.rules.specs.Limits.{granule}
 use Rattle.rules.specs.First.{faultless}
-use Rattle.rules.specs.Descriptors.{globalsOf}
+use Rattle.rules.specs.Descriptors.{globalsListed}
 use Rattle.rules.specs.declared.Global.{Global}
 use Rattle.rules.specs.declared.Module.{Module}
 
 -- the globals that a module's table lists
-abbrev pub listOf : Outcome (List Global) → List Global
-listOf o = found [] o
-
 abbrev pub globalsIn : List ℕ → Module → List Global
-globalsIn f m = listOf (globalsOf f (m .headers) (m .descriptors))
+globalsIn f m = globalsListed f (m .headers) (m .descriptors)
 
 abbrev pub globalAt : List Global → ℕ → Global
 globalAt gs i = getD gs i (record { start = 0; granules = 0 })

@@ -5,7 +5,7 @@ use mathlib.Core.Bool.{false, cond}
 use mathlib.Core.List.{List, [], _∷_}
 use lib.ListN.{length, getD}
 use lib.Dec.{ltb, leb, eqb}
-use Rattle.rules.specs.Outcome.{Outcome, good, bad, refuse, andThen}
+use Rattle.rules.specs.Outcome.{Outcome, good, bad, found, refuse, andThen}
 use Rattle.rules.specs.Limits.{addressLimit, globalLimit, granule}
 use Rattle.rules.specs.Bytes.{part}
 use Rattle.rules.specs.Segments.{inMemory}
@@ -111,3 +111,7 @@ descriptorTable f t = part f (t .at) (t .bytes)
 -- checks 8 and 9, and the globals
 unfoldable pub globalsOf : List ℕ → Headers → Descriptors → Outcome (List Global)
 globalsOf f h t = globalsFrom f h (descriptorTable f t) globalLimit 0 tableStart
+
+-- the globals that a table lists
+abbrev pub globalsListed : List ℕ → Headers → Descriptors → List Global
+globalsListed f h t = found [] (globalsOf f h t)

@@ -6,6 +6,7 @@ use mathlib.Core.List.{List, [], _∷_, _++_}
 use lib.ListN.{length, getD}
 use lib.Dec.{ltb, leb, eqb}
 use Rattle.rules.specs.Outcome.{Outcome, good, refuse, andThen, require}
+use Rattle.rules.specs.Checks.{Check}
 use Rattle.rules.specs.Limits.{dynamicLimit}
 use Rattle.rules.specs.Bytes.{le}
 use Rattle.rules.specs.First.{first, someBelow, faultless}
@@ -177,7 +178,7 @@ unfoldable pub partnerless : List Known → List ℕ → Dynamic → ℕ → Boo
 partnerless known f d r = differ (hasTag f d (rowAt known r .tag)) (hasTag f d (rowAt known r .group))
 
 -- check 6: bad or repeated entries; then a partner missing
-unfoldable pub entriesCheck : List Known → List ℕ → Dynamic → Outcome (Unit {0})
+unfoldable pub entriesCheck : List Known → List ℕ → Dynamic → Check
 entriesCheck known f d =
     andThen (faultless 6 (badEntry known f d) (d .entries)) (λ _.
     require (not (someBelow (partnerless known f d) (length known))) 6 (d .entries))

@@ -3,7 +3,8 @@
 use Prim.Native.Nat.{ℕ, zero, suc, _+_}
 use mathlib.Core.Bool.{Bool, cond}
 use lib.Dec.{ltb, eqb}
-use Rattle.rules.specs.Outcome.{Outcome, good, refuse}
+use Rattle.rules.specs.Outcome.{good, refuse}
+use Rattle.rules.specs.Checks.{Check}
 
 -- the first of the k indices from i on at which f holds, or i + k
 unfoldable pub first : (ℕ → Bool) → ℕ → ℕ → ℕ
@@ -20,13 +21,13 @@ countBelow f zero = 0
 countBelow f (suc n) = countBelow f n + cond (f n) 1 0
 
 -- no fault where the lowest faulty index is n, the end; else the number with the position of that index
-abbrev pub faultAt : ℕ → (ℕ → ℕ) → ℕ → ℕ → Outcome (Unit {0})
+abbrev pub faultAt : ℕ → (ℕ → ℕ) → ℕ → ℕ → Check
 faultAt number position n lowest = cond (eqb lowest n) (good tt) (refuse number (position lowest))
 
 -- no fault at the indices below n; else the number with the position of the lowest faulty index
-abbrev pub faultsAt : ℕ → (ℕ → ℕ) → (ℕ → Bool) → ℕ → Outcome (Unit {0})
+abbrev pub faultsAt : ℕ → (ℕ → ℕ) → (ℕ → Bool) → ℕ → Check
 faultsAt number position fault n = faultAt number position n (first fault 0 n)
 
 -- where an index is its own position
-abbrev pub faultless : ℕ → (ℕ → Bool) → ℕ → Outcome (Unit {0})
+abbrev pub faultless : ℕ → (ℕ → Bool) → ℕ → Check
 faultless number fault n = faultsAt number (λ i. i) fault n

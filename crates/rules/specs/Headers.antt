@@ -13,7 +13,7 @@ use Rattle.rules.specs.First.{faultless}
 use Rattle.rules.specs.declared.Headers.{Headers}
 
 -- check 1: a file of 64 to 1,048,576 bytes
-unfoldable pub sizeCheck : List ℕ → Outcome (Unit {0})
+unfoldable pub sizeCheck : List ℕ → Check
 sizeCheck f = require (leb fileLeast (length f) && leb (length f) fileLimit) 1 0
 
 -- check 2: the first seven bytes, at the first wrong one
@@ -23,7 +23,7 @@ identification = 0x7f ∷ 0x45 ∷ 0x4c ∷ 0x46 ∷ 2 ∷ 1 ∷ 1 ∷ []
 unfoldable pub wrongByte : List ℕ → ℕ → Bool
 wrongByte f i = not (eqb (getD f i 0) (getD identification i 0))
 
-unfoldable pub identificationCheck : List ℕ → Outcome (Unit {0})
+unfoldable pub identificationCheck : List ℕ → Check
 identificationCheck f = faultless 2 (wrongByte f) 7
 
 -- check 3: type 3, machine 183, version 1, header size 56, a count of 1 to 16, the table inside a file of so many bytes
@@ -36,7 +36,7 @@ goodHeader length kind machine version size count table =
     && ((leb 1 count && leb count headerLimit)
     && leb (table + 56 * count) length))))
 
-unfoldable pub headerCheck : List ℕ → Outcome (Unit {0})
+unfoldable pub headerCheck : List ℕ → Check
 headerCheck f =
     require (goodHeader (length f) (le 2 f 16) (le 2 f 18) (le 4 f 20) (le 2 f 54) (le 2 f 56) (le 8 f 32)) 3 0
 

@@ -9,11 +9,10 @@ use Rattle.rules.specs.Headers.{headerChecks, theHeaders}
 use Rattle.rules.specs.Segments.{loadsCheck}
 use Rattle.rules.specs.Dynamic.{dynamicOf, symtab, knownTags, entriesCheck, entryOf}
 use Rattle.rules.specs.Tables.{relocationsOf, descriptorsOf}
-use Rattle.rules.specs.Descriptors.{globalsOf}
+use Rattle.rules.specs.Descriptors.{globalsOf, globalsListed}
 use Rattle.rules.specs.declared.Dynamic.{Dynamic}
 use Rattle.rules.specs.declared.Relocations.{Relocations}
 use Rattle.rules.specs.declared.Descriptors.{Descriptors}
-use Rattle.rules.specs.declared.Global.{Global}
 use Rattle.rules.specs.declared.Module.{Module}
 
 -- what the checks find; what stands here for a refusal is never reached
@@ -26,9 +25,6 @@ theRelocations f = found (record { at = 0; entries = 0 }) (relocationsOf f (theH
 abbrev pub theDescriptors : List ℕ → Descriptors
 theDescriptors f = found (record { at = 0; bytes = 0 }) (descriptorsOf f (theHeaders f) (theDynamic f))
 
-abbrev pub theGlobals : List ℕ → List Global
-theGlobals f = found [] (globalsOf f (theHeaders f) (theDescriptors f))
-
 abbrev pub theModule : List ℕ → Module
 theModule f = record {
   headers = theHeaders f;
@@ -36,7 +32,7 @@ theModule f = record {
   symbols = entryOf f (theDynamic f) symtab;
   relocations = theRelocations f;
   descriptors = theDescriptors f;
-  globals = length (theGlobals f);
+  globals = length (globalsListed f (theHeaders f) (theDescriptors f));
 }
 
 -- check 5; check 7 of each table; checks 8 and 9, one walk

@@ -5,7 +5,7 @@ use mathlib.Core.Bool.{Bool, false, cond, not, _&&_, _||_}
 use mathlib.Core.List.{List}
 use lib.ListN.{length}
 use lib.Dec.{ltb, leb, eqb}
-use Rattle.rules.specs.Outcome.{Outcome}
+use Rattle.rules.specs.Checks.{Check}
 use Rattle.rules.specs.Limits.{fileLimit, memoryLimit}
 use Rattle.rules.specs.Bytes.{le}
 use Rattle.rules.specs.First.{first, someBelow, faultless}
@@ -69,7 +69,7 @@ loadsEnd f h = endBefore f h (h .count)
 unfoldable pub badLoad : List ℕ → Headers → ℕ → Bool
 badLoad f h i = isLoad (headerAt f h i) && not (goodLoad (length f) (endBefore f h i) (headerAt f h i))
 
-unfoldable pub loadsCheck : List ℕ → Headers → Outcome (Unit {0})
+unfoldable pub loadsCheck : List ℕ → Headers → Check
 loadsCheck f h = faultless 4 (badLoad f h) (h .count)
 
 -- the size bytes from start hold the n bytes from a

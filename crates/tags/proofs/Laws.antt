@@ -3,16 +3,16 @@
 use Prim.Native.Nat.{ℕ, zero, suc, _+_, _-_, _<_}
 use mathlib.Core.Path.{_≡_, refl}
 use mathlib.Core.Bool.{Bool, true, false, cond}
-use mathlib.Core.List.{List}
+use mathlib.Core.List.{List, []}
 use native.Mathlib.Numerals.{add-one, sub-one}
 use native.Mathlib.Omega.{arith}
 use lib.ListN.{length, getD, replicate}
 use borrow.Author.Tests.{eq-eqb, ne-eqb}
-use Rattle.rules.specs.Outcome.{Outcome, good, bad, refuse}
+use Rattle.rules.specs.Outcome.{Outcome, good, bad, found, refuse}
 use Rattle.rules.specs.Checks.{Check}
 use Rattle.rules.specs.First.{first, faultAt}
 use Rattle.rules.specs.Descriptors.{tableStart, descriptorTable, globalsOf}
-use Rattle.rules.specs.Choices.{listOf, globalAt, endOf, badChoice, choicesFor}
+use Rattle.rules.specs.Choices.{globalAt, endOf, badChoice, choicesFor}
 use Rattle.rules.specs.Plane.{putTag, tagged, planeOf}
 use Rattle.rules.specs.Answers.{countOf}
 use Rattle.rules.specs.declared.Headers.{Headers}
@@ -24,7 +24,7 @@ use Rattle.tags.specs.Walks.{badAfter, choicesFrom, taggedFrom}
 use Rattle.rules.proofs.OutcomeLaws.{never}
 
 -- globals that were counted are there, as many as the count
-pub counted : (x : Outcome (List Global)) (n : ℕ) → countOf x ≡ good n → (x ≡ good (listOf x)) × (length (listOf x) ≡ n)
+pub counted : (x : Outcome (List Global)) (n : ℕ) → countOf x ≡ good n → (x ≡ good (found [] x)) × (length (found [] x) ≡ n)
 counted (good gs) n e = (refl, cc)
 counted (bad r) n e = search never
 
