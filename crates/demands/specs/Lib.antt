@@ -1,6 +1,7 @@
 pub mod Plain
 pub mod Table
 pub mod Steps
+pub mod Writer
 pub mod Demands
 pub mod Calls
 pub mod Promises

@@ -30,6 +30,8 @@ use Rattle.rules.specs.declared.Step.{Step}
 use Rattle.rules.specs.declared.Step.the-variants as step
 use Rattle.rules.specs.declared.GlobalsAnswer.{GlobalsAnswer}
 use Rattle.rules.specs.declared.GlobalsAnswer.the-variants as globals
+use Rattle.rules.specs.declared.TableAnswer.{TableAnswer}
+use Rattle.rules.specs.declared.TableAnswer.the-variants as table
 use Rattle.rules.specs.declared.ModuleAnswer.{ModuleAnswer}
 use Rattle.rules.specs.declared.ModuleAnswer.the-variants as module-answer
 use Rattle.rules.specs.declared.Answer.{Answer}
@@ -72,6 +74,10 @@ ofGlobals (globals.Refused r) = bad r
 -- how many globals there are
 abbrev pub countOf : Outcome (List Global) → Outcome ℕ
 countOf o = mapped length o
+
+abbrev pub ofTable : TableAnswer → Outcome ℕ
+ofTable (table.Written n) = good n
+ofTable (table.Refused r) = bad r
 
 abbrev pub ofModule : ModuleAnswer → Outcome Module
 ofModule (module-answer.Found m) = good m

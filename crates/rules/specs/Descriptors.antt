@@ -1,7 +1,7 @@
 -- Checks 8 and 9: global descriptors.
 -- Assumes nothing.
-use Prim.Native.Nat.{ℕ, zero, suc, _+_, _*_, _/_, _%_}
-use mathlib.Core.Bool.{false, cond}
+use Prim.Native.Nat.{ℕ, zero, suc, _+_, _*_, _-_, _/_, _%_}
+use mathlib.Core.Bool.{Bool, true, false, cond, not, _&&_}
 use mathlib.Core.List.{List, [], _∷_}
 use lib.ListN.{length, getD}
 use lib.Dec.{ltb, leb, eqb}
@@ -44,6 +44,28 @@ ulebIn (suc n) s at =
 abbrev pub ulebAt : List ℕ → ℕ → Uleb
 ulebAt s at = ulebIn 10 s at
 
+-- a first number's size is below this, and its distance counts in units of this
+abbrev pub sizeLimit : ℕ
+sizeLimit = 8
+
+-- the number from at to next is padded: it has more than one byte, and the last is 0
+abbrev pub padded : List ℕ → ℕ → ℕ → Bool
+padded s at next = ltb (at + 1) next && eqb (getD s (next - 1) 0) 0
+
+-- a second number in shortest form: not padded, and the size, which is that number plus 1, does not go into the first
+unfoldable pub shortSecond : List ℕ → ℕ → Uleb → Bool
+shortSecond s at (number v next) = not (padded s at next) && leb sizeLimit (v + 1)
+shortSecond s at malformed = false
+
+-- a first number in shortest form, and the second where there is one
+unfoldable pub shortFirst : List ℕ → ℕ → Uleb → Bool
+shortFirst s at (number v next) = not (padded s at next) && cond (eqb (v % sizeLimit) 0) (shortSecond s next (ulebAt s next)) true
+shortFirst s at malformed = false
+
+-- the descriptor at a position is in shortest form
+abbrev pub shortAt : List ℕ → ℕ → Bool
+shortAt s at = shortFirst s at (ulebAt s at)
+
 -- what reading one descriptor finds
 pub data Read : Type 0 where
   finished : Read
@@ -65,7 +87,7 @@ second index end distance malformed = refuse 8 index
 -- the first number: its low three bits are the size, or 0 where a second number follows; the rest is the distance
 unfoldable pub descriptor : ℕ → List ℕ → ℕ → Uleb → Outcome Read
 descriptor index s end (number v next) =
-    cond (eqb (v % 8) 0) (second index end (v / 8) (ulebAt s next)) (globalAfter index end (v / 8) (v % 8) next)
+    cond (eqb (v % sizeLimit) 0) (second index end (v / sizeLimit) (ulebAt s next)) (globalAfter index end (v / sizeLimit) (v % sizeLimit) next)
 descriptor index s end malformed = refuse 8 index
 
 -- one descriptor at a cursor, called alone, with the index to report: the tests in their order

@@ -19,6 +19,7 @@ pub mod Image
 pub mod Plane
 pub mod Words
 pub mod Load
+pub mod Writer
 pub mod Answers
 pub mod Numbers
 pub mod Bench

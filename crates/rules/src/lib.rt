@@ -250,6 +250,12 @@ pub enum GlobalsAnswer {
     Refused(Refusal),
 }
 
+// The answer of the writer: the table's length.
+pub enum TableAnswer {
+    Written(u64),
+    Refused(Refusal),
+}
+
 // The answer of the ELF reader, checks 1 to 9.
 pub enum ModuleAnswer {
     Found(Module),
