@@ -4,4 +4,5 @@ pub mod KnownTags
 pub mod Loads
 pub mod Writes
 pub mod Globals
+pub mod Encoding
 pub mod Places

@@ -1,0 +1,75 @@
+-- The bytes of ULEB128 numbers and of descriptors, as they are written: what follows what, and how many they are.
+-- Assumes nothing.
+use Prim.Native.Nat.{ℕ, zero, suc, _+_, _*_, _-_, _/_, _%_, _^_, _≤_, _<_}
+use mathlib.Core.Path.{_≡_, refl, sym, ap, _∙_}
+use mathlib.Core.List.{List, [], _∷_, _++_}
+use native.Mathlib.Nat.{pow-suc}
+use native.Mathlib.Omega.{arith}
+use lib.ListN.{length, length-append}
+use lib.Dec.{ltb}
+use borrow.Author.Tests.{ltb-true, ltb-false, lt-ltb, le-ltb}
+use Rattle.rules.specs.Limits.{addressLimit, granule}
+use Rattle.rules.specs.Descriptors.{sizeLimit}
+use Rattle.rules.specs.Writer.{ulebBytes, uleb, descriptorOf}
+use Rattle.laws.proofs.Checks.{cond-case, cond-both}
+
+-- ---- a number
+
+-- so many bytes are enough
+pub record Enough (n v : ℕ) : Type 0 where
+  pub some : 1 ≤ n
+  pub room : v < 128 ^ n
+
+-- and after a byte one less
+pub enough-next : (n v : ℕ) → 128 ≤ v → Enough (suc n) v → Enough n (v / 128)
+enough-next zero v h e = let r : v < 128 ^ 1 = e .room in absurd (omega arith)
+enough-next (suc n) v h e =
+    let r : v < 128 ^ suc n * 128 = rw (← pow-suc) (e .room) in
+    record { some = omega arith; room = omega arith }
+
+-- more allowed than enough changes nothing
+pub bytes-enough : (n m v : ℕ) → Enough n v → n ≤ m → ulebBytes m v ≡ ulebBytes n v
+unfolding ulebBytes
+bytes-enough zero m v e l = let s = e .some in absurd (omega arith)
+bytes-enough (suc n) zero v e l = absurd (omega arith)
+bytes-enough (suc n) (suc m) v e l =
+    cond-both (λ (s t : List ℕ). s ≡ t) (ltb v 128) _ _ _ _ (λ _. refl)
+    (λ q. ap (λ (t : List ℕ). (v % 128 + 128) ∷ t) (bytes-enough n m (v / 128) (enough-next n v (ltb-false v 128 q) e) (omega arith)))
+
+-- a number of one byte
+pub uleb-last : (v : ℕ) → v < 128 → uleb v ≡ v ∷ []
+unfolding ulebBytes
+uleb-last v h = rw (lt-ltb v 128 h)
+
+-- a byte of a longer one
+pub uleb-more : (v : ℕ) → 128 ≤ v → v < 2 ^ 64 → uleb v ≡ (v % 128 + 128) ∷ uleb (v / 128)
+unfolding ulebBytes
+uleb-more v h l =
+    let e : Enough 9 (v / 128) = record { some = omega arith; room = omega arith } in
+    rw (le-ltb v 128 h, sym (bytes-enough 9 10 (v / 128) e (omega arith)))
+
+-- a number has as many bytes as are enough, at most
+pub bytes-most : (n k v : ℕ) → Enough k v → length (ulebBytes n v) ≤ k
+unfolding ulebBytes
+bytes-most zero k v e = omega arith
+bytes-most (suc n) zero v e = let s = e .some in absurd (omega arith)
+bytes-most (suc n) (suc k) v e =
+    cond-case (λ (t : List ℕ). length t ≤ suc k) (ltb v 128) _ _
+    (λ _. omega arith)
+    (λ q. let again = bytes-most n k (v / 128) (enough-next k v (ltb-false v 128 q) e) in omega arith)
+
+-- ---- a descriptor
+
+-- numbers up to 2^48 have seven bytes at most
+pub uleb-short : (v : ℕ) → v ≤ 2 ^ 48 → length (uleb v) ≤ 7
+uleb-short v h = bytes-most 10 7 v (record { some = omega arith; room = omega arith })
+
+pub descriptor-short : (distance granules : ℕ) → granule * distance ≤ addressLimit → granule * granules ≤ addressLimit
+    → length (descriptorOf distance granules) ≤ 14
+descriptor-short distance granules d g =
+    cond-case (λ (t : List ℕ). length t ≤ 14) (ltb granules sizeLimit) _ _
+    (λ q. let s = ltb-true granules sizeLimit q in let one = uleb-short (sizeLimit * distance + granules) (omega arith) in omega arith)
+    (λ _.
+    let one = uleb-short (sizeLimit * distance) (omega arith) in
+    let two = uleb-short (granules - 1) (omega arith) in
+    rw length-append (omega arith))
