@@ -58,6 +58,9 @@ bytes-most (suc n) (suc k) v e =
     (λ _. omega arith)
     (λ q. let again = bytes-most n k (v / 128) (enough-next k v (ltb-false v 128 q) e) in omega arith)
 
+pub uleb-most : (v : ℕ) → v < 2 ^ 64 → length (uleb v) ≤ 10
+uleb-most v h = bytes-most 10 10 v (record { some = omega arith; room = omega arith })
+
 -- ---- a descriptor
 
 -- numbers up to 2^48 have seven bytes at most

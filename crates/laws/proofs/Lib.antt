@@ -5,4 +5,5 @@ pub mod Loads
 pub mod Writes
 pub mod Globals
 pub mod Encoding
+pub mod Listed
 pub mod Places

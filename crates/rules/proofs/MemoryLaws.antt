@@ -66,6 +66,15 @@ put-cons (x ∷ d) zero y s = refl
 put-cons [] (suc a) y s = refl
 put-cons (x ∷ d) (suc a) y s = ap (λ (t : List ℕ). x ∷ t) (put-cons d a y s)
 
+-- one part after another
+pub put-append : (d : List ℕ) (a : ℕ) (s t : List ℕ) → put d a (s ++ t) ≡ put (put d a s) (a + length s) t
+put-append d a [] t =
+    let z : a + 0 ≡ a = omega arith in
+    rw (put-nil d a, z)
+put-append d a (y ∷ s) t =
+    let n : a + suc (length s) ≡ suc a + length s = omega arith in
+    rw (put-cons d a y (s ++ t), put-cons d a y s, n) (put-append (set d a y) (suc a) s t)
+
 -- the stores of straight-line code, s from a + k on
 abbrev pub stores : List ℕ → ℕ → ℕ → List ℕ → List ℕ
 stores d a k [] = d

@@ -1,0 +1,63 @@
+-- A call of the writer, by what it measured.
+-- Assumes nothing.
+use Prim.Native.Nat.{ℕ, _≤_, _<_}
+use mathlib.Core.Path.{_≡_, refl, sym, _∙_}
+use mathlib.Core.List.{List}
+use lib.ListN.{length}
+use borrow.Author.Tests.{eq-eqb, ne-eqb, le-leb, lt-leb}
+use Rattle.rules.specs.Outcome.{Outcome, good, bad, refuse, andThen}
+use Rattle.rules.specs.Checks.{Check}
+use Rattle.rules.specs.Memory.{put}
+use Rattle.rules.specs.Writer.{tableOf, listCheck, writtenOf}
+use Rattle.rules.specs.declared.Refusal.{Refusal}
+use Rattle.rules.proofs.OutcomeLaws.{never}
+use Rattle.demands.specs.Writer.{WriteCall}
+use Rattle.writer.specs.Faults.{measured}
+use Rattle.writer.proofs.Laws.{measured-start}
+
+module _ (addresses sizes lent : List ℕ) where
+  -- 1
+  pub call-unequal : (o : Outcome ℕ) → (length addresses ≡ length sizes → ⊥) → o ≡ refuse 1 0 → WriteCall addresses sizes lent lent o
+  unfolding writtenOf
+  call-unequal o n e =
+      let t = ne-eqb (length addresses) (length sizes) n in
+      record { answered = rw (e, t); written = rw t }
+
+  module _ (l : length addresses ≡ length sizes) where
+    -- 2 to 5
+    pub call-measured : (o : Outcome ℕ) (r : Refusal) → o ≡ bad r → o ≡ measured addresses sizes 0 0 0 → WriteCall addresses sizes lent lent o
+    unfolding writtenOf
+    call-measured o r e m =
+        let t = eq-eqb (length addresses) (length sizes) l in
+        let c = list-bad (listCheck 0 0 addresses sizes) (length (tableOf addresses sizes)) (sym (measured-start addresses sizes) ∙ sym m ∙ e) in
+        record { answered = rw (e, t, c); written = rw (t, c) }
+      where
+        list-bad : (c : Check) (n : ℕ) → andThen c (λ _. good n) ≡ bad r → c ≡ bad r
+        list-bad (good u) n h = search never
+        list-bad (bad q) n h = cc
+
+    -- 6
+    pub call-small : (o : Outcome ℕ) → listCheck 0 0 addresses sizes ≡ good tt → length lent < length (tableOf addresses sizes) → o ≡ refuse 6 0
+        → WriteCall addresses sizes lent lent o
+    unfolding writtenOf
+    call-small o c s e =
+        let t = eq-eqb (length addresses) (length sizes) l in
+        let f = lt-leb (length (tableOf addresses sizes)) (length lent) s in
+        record { answered = rw (e, t, c, f); written = rw (t, c, f) }
+
+    pub call-taken : (o : Outcome ℕ) (left : List ℕ) → listCheck 0 0 addresses sizes ≡ good tt → length (tableOf addresses sizes) ≤ length lent
+        → o ≡ good (length (tableOf addresses sizes)) → left ≡ put lent 0 (tableOf addresses sizes) → WriteCall addresses sizes lent left o
+    unfolding writtenOf
+    call-taken o left c s e w =
+        let t = eq-eqb (length addresses) (length sizes) l in
+        let f = le-leb (length (tableOf addresses sizes)) (length lent) s in
+        record { answered = rw (e, t, c, f); written = rw (w, t, c, f) }
+
+-- what was measured
+pub measured-good : (addresses sizes : List ℕ) (n : ℕ) → measured addresses sizes 0 0 0 ≡ good n
+    → (listCheck 0 0 addresses sizes ≡ good tt) × (n ≡ length (tableOf addresses sizes))
+measured-good addresses sizes n e = go (listCheck 0 0 addresses sizes) (sym (measured-start addresses sizes) ∙ e)
+  where
+    go : (c : Check) → andThen c (λ _. good (length (tableOf addresses sizes))) ≡ good n → (c ≡ good tt) × (n ≡ length (tableOf addresses sizes))
+    go (good u) h = (refl, cc)
+    go (bad r) h = search never

@@ -1,0 +1,186 @@
+// Writes the descriptor table of a list of globals.
+ghost use mathlib.Core.Path.{_≡_};
+ghost use Prim.Native.Nat.{_+_, _*_, _≤_, _<_};
+ghost use lib.ListN.{length, getD};
+ghost use Rattle.rules.specs.Outcome.{good, refuse, andThen};
+ghost use Rattle.rules.specs.Limits.{addressLimit, granule};
+ghost use Rattle.rules.specs.Memory.{put};
+ghost use Rattle.rules.specs.Writer.{uleb, descriptorOf, tableOf, listCheck};
+ghost use Rattle.rules.specs.Answers.{ofTable};
+ghost use Rattle.demands.specs.Writer.{WriteCall};
+ghost use Rattle.writer.specs.Faults.{Judged, measured};
+use rules::ADDRESS_LIMIT;
+use rules::GRANULE;
+use rules::Refusal;
+use rules::TableAnswer;
+
+// A byte at least this has another after it, and counts this many times less than the next.
+const MORE: u64 = 128;
+
+// A first number's size is below this, and its distance counts in units of this.
+const SIZES: u64 = 8;
+
+// No fault, and the refusal numbers in their order.
+const FAULTLESS: u8 = 0;
+
+const UNEQUAL_LISTS: u8 = 1;
+
+const SIZE_ZERO: u8 = 2;
+
+const NO_MULTIPLE: u8 = 3;
+
+const EARLY_START: u8 = 4;
+
+const HIGH_END: u8 = 5;
+
+const SMALL_BUFFER: u8 = 6;
+
+fn refused(number: u8, index: usize) -> TableAnswer
+    ensures { λ r. ⌜ ofTable r ≡ refuse number index ⌝ }
+{
+    let r = Refusal {
+        number: number,
+        position: index as u64,
+    };
+    TableAnswer::Refused(r)
+}
+
+fn element(list: &[u64], i: usize) -> u64
+    requires { ⌜ i < length (now list) ⌝ }
+    ensures { λ r. ⌜ r ≡ getD (now (list .entry)) i 0 ⌝ }
+{
+    list[i]
+}
+
+// The first fault of a global after one that ends at end.
+fn judge(end: u64, address: u64, size: u64) -> u8
+    ensures { λ r. ⌜ Judged end address size r ⌝ }
+{
+    if size == 0 {
+        return SIZE_ZERO;
+    }
+    if size % GRANULE != 0 {
+        return NO_MULTIPLE;
+    }
+    if address % GRANULE != 0 {
+        return NO_MULTIPLE;
+    }
+    if address < end {
+        return EARLY_START;
+    }
+    if reads::sum_within(address, size, ADDRESS_LIMIT) {
+        return FAULTLESS;
+    }
+    HIGH_END
+}
+
+// Bytes of a number.
+fn uleb_length(value: u64) -> u64
+    ensures { λ r. ⌜ r ≡ length (uleb value) ⌝ }
+{
+    let mut v = value;
+    let mut n: u64 = 1;
+    while MORE <= v {
+        v /= MORE;
+        n += 1;
+    }
+    n
+}
+
+// Bytes of a descriptor.
+fn descriptor_length(distance: u64, granules: u64) -> u64
+    requires { ⌜ granule * distance + granule * granules ≤ addressLimit ⌝ }
+    ensures { λ r. ⌜ r ≡ length (descriptorOf distance granules) ⌝ }
+{
+    if granules < SIZES {
+        return uleb_length(SIZES * distance + granules);
+    }
+    uleb_length(SIZES * distance) + uleb_length(granules - 1)
+}
+
+// Checks each global in turn; the table's length.
+fn measure(addresses: &[u64], sizes: &[u64]) -> TableAnswer
+    requires { ⌜ length (now addresses) ≡ length (now sizes) ⌝ }
+    ensures { λ r. ⌜ ofTable r ≡ measured (now (addresses .entry)) (now (sizes .entry)) 0 0 0 ⌝ }
+{
+    let mut end: u64 = 0;
+    let mut total: u64 = 0;
+    for i in 0..addresses.len() {
+        let address = element(addresses, i);
+        let size = element(sizes, i);
+        let fault = judge(end, address, size);
+        if fault != FAULTLESS {
+            return refused(fault, i);
+        }
+        total += descriptor_length((address - end) / GRANULE, size / GRANULE);
+        end = address + size;
+    }
+    TableAnswer::Written(total)
+}
+
+// A number from a position on; the position after it.
+fn write_uleb(buffer: &mut [u8], from: usize, value: u64) -> usize
+    requires { ⌜ from + length (uleb value) ≤ length (now buffer) ⌝ }
+    ensures moved { λ r. ⌜ r ≡ from + length (uleb value) ⌝ }
+    ensures written { λ _. ⌜ now (buffer .exit) ≡ put (now (buffer .entry)) from (uleb value) ⌝ }
+{
+    let mut at = from;
+    let mut v = value;
+    while MORE <= v {
+        buffer[at] = (v % MORE + MORE) as u8;
+        v /= MORE;
+        at += 1;
+    }
+    buffer[at] = v as u8;
+    at + 1
+}
+
+// A descriptor from a position on; the position after it.
+fn write_descriptor(buffer: &mut [u8], at: usize, distance: u64, granules: u64) -> usize
+    requires small { ⌜ granule * distance + granule * granules ≤ addressLimit ⌝ }
+    requires fits { ⌜ at + length (descriptorOf distance granules) ≤ length (now buffer) ⌝ }
+    ensures moved { λ r. ⌜ r ≡ at + length (descriptorOf distance granules) ⌝ }
+    ensures written { λ _. ⌜ now (buffer .exit) ≡ put (now (buffer .entry)) at (descriptorOf distance granules) ⌝ }
+{
+    if granules < SIZES {
+        return write_uleb(buffer, at, SIZES * distance + granules);
+    }
+    let next = write_uleb(buffer, at, SIZES * distance);
+    write_uleb(buffer, next, granules - 1)
+}
+
+// The table over the front of the buffer.
+fn write_list(addresses: &[u64], sizes: &[u64], buffer: &mut [u8])
+    requires equal { ⌜ length (now addresses) ≡ length (now sizes) ⌝ }
+    requires passed { ⌜ listCheck 0 0 (now addresses) (now sizes) ≡ good tt ⌝ }
+    requires fits { ⌜ length (tableOf (now addresses) (now sizes)) ≤ length (now buffer) ⌝ }
+    ensures { λ _. ⌜ now (buffer .exit) ≡ put (now (buffer .entry)) 0 (tableOf (now (addresses .entry)) (now (sizes .entry))) ⌝ }
+{
+    let mut end: u64 = 0;
+    let mut at: usize = 0;
+    for i in 0..addresses.len() {
+        let address = element(addresses, i);
+        let size = element(sizes, i);
+        at = write_descriptor(buffer, at, (address - end) / GRANULE, size / GRANULE);
+        end = address + size;
+    }
+}
+
+// Writes the table of globals, by addresses and byte sizes, to the front of a buffer, and answers its length. A refusal has the
+// index of the global, and writes nothing.
+pub fn write_table(addresses: &[u64], sizes: &[u64], buffer: &mut [u8]) -> TableAnswer
+    ensures { λ r. ⌜ WriteCall (now (addresses .entry)) (now (sizes .entry)) (now (buffer .entry)) (now (buffer .exit)) (ofTable r) ⌝ }
+{
+    if addresses.len() != sizes.len() {
+        return refused(UNEQUAL_LISTS, 0);
+    }
+    let answer = measure(addresses, sizes);
+    let TableAnswer::Written(length) = answer else {
+        return answer;
+    };
+    if (buffer.len() as u64) < length {
+        return refused(SMALL_BUFFER, 0);
+    }
+    write_list(addresses, sizes, buffer);
+    TableAnswer::Written(length)
+}
