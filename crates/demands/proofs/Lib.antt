@@ -12,6 +12,7 @@ pub mod Tags
 pub mod Refusals
 pub mod Steps
 pub mod Spelling
+pub mod Written
 pub mod Theorem
 pub mod Calls
 pub mod Promises

@@ -101,13 +101,19 @@ bytes-reads (suc k) n s at v post e l m h =
 
 -- a number that is read from its written bytes
 pub record Spelt (s : List ℕ) (at v : ℕ) : Type 0 where
+  pub within : at < length s
   pub reads : ulebAt s at ≡ number v (at + length (uleb v))
   pub tight : Tight s at (at + length (uleb v))
 
 pub uleb-spelt : (s : List ℕ) (at v : ℕ) (post : List ℕ) → v < 2 ^ 63 → drop at s ≡ uleb v ++ post → Spelt s at v
 uleb-spelt s at v post l h =
     let r = bytes-reads 9 10 s at v post (record { some = omega arith; room = omega arith }) (omega arith) (omega arith) h in
-    record { reads = r .reads; tight = λ q. r .last (⊎-elim (λ g. g) (λ z. one z q) (le-or-lt 1 v)) }
+    let stands : Stands at (length s) 10 (number v (at + length (uleb v))) = subst (λ (u : Uleb). Stands at (length s) 10 u) (r .reads) (uleb-stands s 10 at) in
+    record {
+      within = omega (arith, stands .0, stands .1 .0);
+      reads = r .reads;
+      tight = λ q. r .last (⊎-elim (λ g. g) (λ z. one z q) (le-or-lt 1 v));
+    }
   where
     one : v < 1 → at + 1 < at + length (uleb v) → 1 ≤ v
     one z q =
