@@ -1,19 +1,19 @@
 -- The globals that a descriptor table lists are taken by the writer, which gives its bytes back where every descriptor in it is in shortest form.
 -- Assumes nothing.
 use Prim.Native.Nat.{ℕ, zero, suc, _+_, _*_, _-_, _/_, _%_, _≤_, _<_}
-use mathlib.Core.Path.{_≡_, refl, sym, ap, _∙_, subst}
-use mathlib.Core.Bool.{Bool, true, false, cond, not, _&&_}
+use mathlib.Core.Path.{_≡_, refl, sym, _∙_, subst}
+use mathlib.Core.Bool.{Bool, true, false, cond, not}
 use mathlib.Core.List.{List, [], _∷_, _++_, append-assoc}
 use native.Mathlib.Omega.{arith}
 use lib.ListN.{length, getD, drop, drop-of-length-le, length-map, List·getD-map}
 use lib.Dec.{ltb, leb, eqb}
-use borrow.Author.Tests.{leb-true, lt-ltb, le-ltb, eqb-true, eqb-false}
-use Rattle.rules.specs.Outcome.{Outcome, good, bad}
+use borrow.Author.Tests.{leb-true, lt-ltb, le-ltb, eqb-true}
+use Rattle.rules.specs.Outcome.{good}
 use Rattle.rules.specs.Limits.{addressLimit, granule}
 use Rattle.rules.specs.Descriptors.{Uleb, number, malformed, ulebAt, padded, sizeLimit, shortSecond, shortFirst, shortAt}
 use Rattle.rules.specs.Descriptors.{Read, finished, global, globalAfter, second, descriptor, stepAt, tableStart}
 use Rattle.rules.specs.Writer.{uleb, descriptorOf, tableFrom, tableOf}
-use Rattle.rules.specs.Choices.{endOf, globalAt}
+use Rattle.rules.specs.Choices.{globalAt}
 use Rattle.rules.specs.declared.Global.{Global}
 use Rattle.rules.specs.declared.Cursor.{Cursor}
 use Rattle.rules.proofs.OutcomeLaws.{bad-good, cond-held, and-left, and-right}

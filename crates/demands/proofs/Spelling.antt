@@ -1,10 +1,10 @@
--- ULEB128 numbers in a table: the bytes written of a number read as it, and a number that is not padded stands as they are written.
+-- ULEB128 numbers in a table: the bytes that are written of a number read as that number, and a number that is not padded stands in those bytes.
 -- Assumes nothing.
 use Prim.Native.Nat.{ℕ, zero, suc, _+_, _*_, _-_, _/_, _%_, _^_, _≤_, _<_}
 use mathlib.Core.Path.{_≡_, refl, sym, ap, _∙_, subst}
-use mathlib.Core.Bool.{Bool, true, false, cond, not, _&&_}
-use mathlib.Core.List.{List, [], _∷_, _++_}
-use mathlib.Core.Logic.{_⊎_, inl, inr, ⊎-elim}
+use mathlib.Core.Bool.{Bool, true, false, not, _&&_}
+use mathlib.Core.List.{List, _∷_, _++_}
+use mathlib.Core.Logic.{_⊎_, ⊎-elim}
 use native.Mathlib.Numerals.{add-one}
 use native.Mathlib.Omega.{arith}
 use lib.ListN.{length, getD, drop, length-drop}
@@ -41,6 +41,9 @@ unpadded-tight s at next h l =
 
 -- ---- what is written reads so
 
+byte-drop : (s : List ℕ) (at : ℕ) → at < length s → drop at s ≡ getD s at 0 ∷ drop (at + 1) s
+byte-drop s at l = rw add-one (drop-cons s at 0 l)
+
 -- a byte stands at a position, and the rest after it
 record Byte (s : List ℕ) (at b : ℕ) (rest : List ℕ) : Type 0 where
   within : at < length s
@@ -51,10 +54,10 @@ drop-byte : (s : List ℕ) (at b : ℕ) (rest : List ℕ) → drop at s ≡ b �
 drop-byte s at b rest h =
     let n : length (drop at s) ≡ suc (length rest) = rw h in
     let l : at < length s = omega (arith, length-drop at s) in
-    let e : getD s at 0 ∷ drop (suc at) s ≡ b ∷ rest = sym (drop-cons s at 0 l) ∙ h in
-    record { within = l; here = cc; after = rw add-one (cc) }
+    let e : getD s at 0 ∷ drop (at + 1) s ≡ b ∷ rest = sym (byte-drop s at l) ∙ h in
+    record { within = l; here = cc; after = cc }
 
--- a number as it is read; its last byte is 0 only where the number is
+-- a number as it is read; where its last byte is 0 the number is 0
 record Reads (n : ℕ) (s : List ℕ) (at v next : ℕ) : Type 0 where
   reads : ulebIn n s at ≡ number v next
   last : 0 < v → 0 < getD s (next - 1) 0
@@ -108,7 +111,7 @@ pub record Spelt (s : List ℕ) (at v : ℕ) : Type 0 where
 pub uleb-spelt : (s : List ℕ) (at v : ℕ) (post : List ℕ) → v < 2 ^ 63 → drop at s ≡ uleb v ++ post → Spelt s at v
 uleb-spelt s at v post l h =
     let r = bytes-reads 9 10 s at v post (record { some = omega arith; room = omega arith }) (omega arith) (omega arith) h in
-    let stands : Stands at (length s) 10 (number v (at + length (uleb v))) = subst (λ (u : Uleb). Stands at (length s) 10 u) (r .reads) (uleb-stands s 10 at) in
+    let stands = subst (λ (u : Uleb). Stands at (length s) 10 u) (r .reads) (uleb-stands s 10 at) in
     record {
       within = omega (arith, stands .0, stands .1 .0);
       reads = r .reads;
@@ -122,34 +125,33 @@ uleb-spelt s at v post l h =
 
 -- ---- what is read is written so
 
--- of a number of at most n bytes: its last byte is 0 where it is; and where it is not padded it stands as its written bytes
+-- of a number of at most n bytes: where it is 0 its last byte is 0; and where it is not padded it stands in its written bytes
 abbrev Respelt : ℕ → List ℕ → ℕ → Uleb → Type 0
 Respelt n s at (number v next) = (0 < getD s (next - 1) 0 → 0 < v) × (Tight s at next → drop at s ≡ ulebBytes n v ++ drop next s)
 Respelt n s at malformed = Unit
 
 module _ (s : List ℕ) (n at : ℕ) (within : at < length s) where
-  byte-drop : drop at s ≡ getD s at 0 ∷ drop (at + 1) s
-  byte-drop = rw add-one (drop-cons s at 0 within)
-
   last-respelt : getD s at 0 < 128 → Respelt (suc n) s at (number (getD s at 0 % 128) (at + 1))
   unfolding ulebBytes
   last-respelt l =
       let e : getD s at 0 % 128 ≡ getD s at 0 = omega arith in
       let k : at + 1 - 1 ≡ at = omega arith in
-      (rw (k, e) (λ h. h), λ _. rw (e, lt-ltb (getD s at 0) 128 l) byte-drop)
+      (rw (k, e) (λ h. h), λ _. rw (e, lt-ltb (getD s at 0) 128 l) (byte-drop s at within))
 
   more-respelt : (u : Uleb) → 128 ≤ getD s at 0 → getD s at 0 < 256 → Stands (at + 1) (length s) n u → Respelt n s (at + 1) u
       → Respelt (suc n) s at (extend (getD s at 0 % 128) u)
   unfolding ulebBytes
   more-respelt malformed l m stands again = tt
-  more-respelt (number v next) l m stands again =
-      (λ h. let z = again .0 h in omega arith, λ tight.
-      let last = tight (stands .0) in
-      let z = again .0 last in
-      let w = getD s at 0 % 128 + 128 * v in
-      let e : w % 128 + 128 ≡ getD s at 0 = omega arith in
-      let f : w / 128 ≡ v = omega arith in
-      rw (le-ltb w 128 (omega arith), e, f, byte-drop, again .1 (λ _. last)))
+  more-respelt (number v next) l m stands again = (
+    λ h. let z = again .0 h in omega arith,
+    λ tight.
+        let last = tight (stands .0) in
+        let z = again .0 last in
+        let w = getD s at 0 % 128 + 128 * v in
+        let e : w % 128 + 128 ≡ getD s at 0 = omega arith in
+        let f : w / 128 ≡ v = omega arith in
+        rw (le-ltb w 128 (omega arith), e, f, byte-drop s at within, again .1 (λ _. last)),
+  )
 
 module _ (s : List ℕ) (bytes : (i : ℕ) → getD s i 0 < 256) where
   reads-bytes : (n at : ℕ) → Respelt n s at (ulebIn n s at)

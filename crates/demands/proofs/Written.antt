@@ -1,28 +1,27 @@
 -- The descriptor table that is written reads back as the globals that it was written of, each descriptor in shortest form.
 -- Assumes nothing.
-use Prim.Native.Nat.{ℕ, zero, suc, _+_, _*_, _-_, _/_, _%_, _^_, _≤_, _<_}
+use Prim.Native.Nat.{ℕ, suc, _+_, _*_, _-_, _/_, _%_, _≤_, _<_}
 use mathlib.Core.Path.{_≡_, refl, sym, ap, _∙_, subst}
-use mathlib.Core.Bool.{Bool, true, false, cond, not, _&&_}
+use mathlib.Core.Bool.{true}
 use mathlib.Core.List.{List, [], _∷_, _++_, append-assoc}
-use mathlib.Core.Logic.{_⊎_, inl, inr, ⊎-elim}
+use mathlib.Core.Logic.{_⊎_, ⊎-elim}
 use native.Mathlib.Nat.{add-assoc}
 use native.Mathlib.Omega.{arith}
 use lib.ListN.{length, getD, drop, length-drop, length-append}
 use lib.Seq.{drop-drop, drop-append-seam}
-use lib.Dec.{ltb, leb, eqb}
 use borrow.Author.Tests.{lt-ltb, le-ltb, le-leb, eq-eqb, ne-eqb}
-use Rattle.rules.specs.Outcome.{Outcome, good, bad}
+use Rattle.rules.specs.Outcome.{Outcome, good}
 use Rattle.rules.specs.Limits.{addressLimit, granule}
-use Rattle.rules.specs.Descriptors.{Uleb, number, malformed, ulebAt, padded, sizeLimit, shortSecond, shortFirst, shortAt}
-use Rattle.rules.specs.Descriptors.{Read, finished, global, globalAfter, second, descriptor, stepAt, tableStart}
+use Rattle.rules.specs.Descriptors.{number, ulebAt, sizeLimit, shortSecond, shortFirst, shortAt}
+use Rattle.rules.specs.Descriptors.{Read, global, globalAfter, second, descriptor, stepAt, tableStart}
 use Rattle.rules.specs.Writer.{uleb, descriptorOf, tableFrom, tableOf}
 use Rattle.rules.specs.Choices.{endOf}
 use Rattle.rules.specs.declared.Global.{Global}
 use Rattle.rules.specs.declared.Cursor.{Cursor}
 use Rattle.laws.proofs.Checks.{le-or-lt}
-use Rattle.laws.proofs.Globals.{Linked, Chain}
-use Rattle.demands.specs.Writer.{Whole, Takes, addressesOf, sizesOf, Gives, Lists, Shortest, ReadsBack}
-use Rattle.demands.proofs.Spelling.{Tight, tight-unpadded, Spelt, uleb-spelt}
+use Rattle.laws.proofs.Globals.{Chain}
+use Rattle.demands.specs.Writer.{Whole, Takes, addressesOf, sizesOf, Lists, Shortest, ReadsBack}
+use Rattle.demands.proofs.Spelling.{tight-unpadded, Spelt, uleb-spelt}
 use Rattle.demands.proofs.Steps.{steps}
 
 -- ---- one descriptor
@@ -109,8 +108,12 @@ module _ (i : ℕ) (s : List ℕ) (c : Cursor) (g : Global) (whole : c .end % gr
       → Described s (c .position) ((g .start - c .end) / granule) (g .granules) → stepAt i s c ≡ good (global g (past c g))
   unfolding stepAt
   step-reads low starts aligned inside d =
-      rw (le-leb (c .position) (length s) (omega (arith, d .within)), eq-eqb (c .end % granule) 0 whole, le-leb (c .end) addressLimit low,
-      lt-ltb (c .position) (length s) (d .within))
+      rw (
+        le-leb (c .position) (length s) (omega (arith, d .within)),
+        eq-eqb (c .end % granule) 0 whole,
+        le-leb (c .end) addressLimit low,
+        lt-ltb (c .position) (length s) (d .within),
+      )
       (d .reads i (c .end) ∙ global-reads starts aligned inside)
 
 -- from a cursor on, the bytes are those written of globals that follow one another
@@ -131,8 +134,8 @@ written-reads s i c (g ∷ gs) whole low within chain h =
     let d = described s (c .position) ((g .start - c .end) / granule) (g .granules) w (chain .filled) (omega arith) (omega arith) h₁ in
     let step = step-reads i s c g whole low starts aligned inside d in
     let moved = steps i s c .step-global g (past c g) step in
-    let rest = written-reads s (i + 1) (past c g) gs (omega arith) inside (moved .within) (chain .rest) (drop-past s (c .position) (bytesOf (c .end) g) w h₁) in
-    (
+    let h₂ = drop-past s (c .position) (bytesOf (c .end) g) w h₁ in
+    let rest = written-reads s (i + 1) (past c g) gs (omega arith) inside (moved .within) (chain .rest) h₂ in (
       record { next = past c g; reads = step; rest = rest .0 },
       (d .short, λ next q. subst (λ (z : Cursor). Shortest s (i + 1) z gs) (same next (sym step ∙ q)) (rest .1)),
     )
@@ -208,10 +211,12 @@ spaced-pairs end (a ∷ addresses) (s ∷ sizes) t =
 pub read-back : (addresses sizes : List ℕ) (n : ℕ) → Takes addresses sizes n → ReadsBack addresses sizes
 read-back addresses sizes n t =
     let p = spaced-pairs 0 addresses sizes (takes-spaced addresses sizes n t) in
-    let r = written-reads (tableOf addresses sizes) 0 tableStart (paired addresses sizes) refl (omega arith) (omega arith) (p .chain)
-        (rw (p .same-addresses, p .same-sizes)) in
+    let gs = paired addresses sizes in
+    let table = tableOf addresses sizes in
+    let h : table ≡ tableOf (addressesOf gs) (sizesOf gs) = rw (p .same-addresses, p .same-sizes) in
+    let r = written-reads table 0 tableStart gs refl (omega arith) (omega arith) (p .chain) h in
     record {
-      globals = paired addresses sizes;
+      globals = gs;
       reads = r .0;
       same-addresses = p .same-addresses;
       same-sizes = p .same-sizes;
