@@ -11,6 +11,9 @@ pub mod Standing
 pub mod Tags
 pub mod Refusals
 pub mod Steps
+pub mod Spelling
+pub mod Written
+pub mod Rewritten
 pub mod Theorem
 pub mod Calls
 pub mod Promises

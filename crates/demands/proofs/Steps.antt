@@ -20,11 +20,11 @@ use Rattle.demands.proofs.Table.{step-refusal}
 use Rattle.demands.specs.Steps.{Steps}
 
 -- a position after at, inside so many bytes, and no more than so many on
-abbrev Past : ℕ → ℕ → ℕ → ℕ → Type 0
+abbrev pub Past : ℕ → ℕ → ℕ → ℕ → Type 0
 Past at size most next = (at < next) × ((next ≤ size) × (next ≤ at + most))
 
 -- a number stands in the bytes that it was read from
-abbrev Stands : ℕ → ℕ → ℕ → Uleb → Type 0
+abbrev pub Stands : ℕ → ℕ → ℕ → Uleb → Type 0
 Stands at size most (number v next) = Past at size most next
 Stands at size most malformed = Unit
 
@@ -32,7 +32,7 @@ extend-stands : (at size most low : ℕ) (u : Uleb) → Stands (at + 1) size mos
 extend-stands at size most low (number v next) h = (omega arith, (h .1 .0, omega arith))
 extend-stands at size most low malformed h = tt
 
-uleb-stands : (s : List ℕ) (n at : ℕ) → Stands at (length s) n (ulebIn n s at)
+pub uleb-stands : (s : List ℕ) (n at : ℕ) → Stands at (length s) n (ulebIn n s at)
 unfolding ulebIn
 uleb-stands s zero at = tt
 uleb-stands s (suc n) at =
