@@ -57,12 +57,13 @@ module _ (addresses sizes : List ℕ) where
         → Refuses n r
     small : r ≡ refusal 6 0 → length addresses ≡ length sizes → FitBelow (length addresses) → n < length (tableOf addresses sizes) → Refuses n r
 
-  -- both exactly; and a table has at most 14 bytes a global
+  -- both exactly; and a table is bytes, at most 14 of them a global
   pub record Writes (n : ℕ) : Type 0 where
     pub taken-if : Takes n → writtenOf addresses sizes n ≡ good (tableOf addresses sizes)
     pub taken-only-if : (table : List ℕ) → writtenOf addresses sizes n ≡ good table → Takes n × (table ≡ tableOf addresses sizes)
     pub refused-if : (r : Refusal) → Refuses n r → writtenOf addresses sizes n ≡ bad r
     pub refused-only-if : (r : Refusal) → writtenOf addresses sizes n ≡ bad r → Refuses n r
+    pub bytes : (i : ℕ) → getD (tableOf addresses sizes) i 0 < 256
     pub short : Takes n → length (tableOf addresses sizes) ≤ 14 * length addresses
 
 -- ---- reading and writing
@@ -100,11 +101,12 @@ pub record ReadsBack (addresses sizes : List ℕ) : Type 0 where
   pub shortest : Shortest (tableOf addresses sizes) 0 tableStart globals
 
 -- the globals that were read from a table are taken, and writing them gives its bytes back exactly where every descriptor in it
--- is in shortest form
+-- is in shortest form; no table that lists them is shorter than the one written
 pub record WritesBack (s : List ℕ) (gs : List Global) : Type 0 where
   pub takes : (n : ℕ) → length (tableOf (addressesOf gs) (sizesOf gs)) ≤ n → Takes (addressesOf gs) (sizesOf gs) n
   pub back-if : Shortest s 0 tableStart gs → tableOf (addressesOf gs) (sizesOf gs) ≡ s
   pub back-only-if : tableOf (addressesOf gs) (sizesOf gs) ≡ s → Shortest s 0 tableStart gs
+  pub least : length (tableOf (addressesOf gs) (sizesOf gs)) ≤ length s
 
 -- ---- a call
 
