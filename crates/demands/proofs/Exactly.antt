@@ -23,7 +23,7 @@ use Rattle.laws.proofs.Stages.{examined-stages, load-stages}
 use Rattle.demands.specs.Demands.{Exactly, SameFacts}
 
 -- a list of checks and what comes of it
-exactly : {A : Type 0} (checks : List Check) (a : A) → Exactly (checked checks a) checks a
+pub exactly : {A : Type 0} (checks : List Check) (a : A) → Exactly (checked checks a) checks a
 exactly {A} checks a = record {
   taken-if = λ all. let e = all-runs checks all in rw e;
   taken-only-if = λ b e.

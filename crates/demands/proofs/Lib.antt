@@ -14,6 +14,7 @@ pub mod Steps
 pub mod Spelling
 pub mod Written
 pub mod Rewritten
+pub mod Writer
 pub mod Theorem
 pub mod Calls
 pub mod Promises

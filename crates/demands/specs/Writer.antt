@@ -12,8 +12,12 @@ use Rattle.rules.specs.Writer.{tableOf, writtenOf, lengthAfter, bufferAfter}
 use Rattle.rules.specs.declared.Refusal.{Refusal}
 use Rattle.rules.specs.declared.Global.{Global}
 use Rattle.rules.specs.declared.Cursor.{Cursor}
+use Rattle.demands.specs.Table.{listed}
 
 -- ---- which lists are taken
+
+abbrev pub writerNumbers : List ℕ
+writerNumbers = 1 ∷ 2 ∷ 3 ∷ 4 ∷ 5 ∷ 6 ∷ []
 
 module _ (addresses sizes : List ℕ) where
   -- where the global before one ends; the first counts from 0
@@ -57,7 +61,8 @@ module _ (addresses sizes : List ℕ) where
         → Refuses n r
     small : r ≡ refusal 6 0 → length addresses ≡ length sizes → FitBelow (length addresses) → n < length (tableOf addresses sizes) → Refuses n r
 
-  -- both exactly; and a table is bytes, at most 14 of them a global
+  -- both exactly; a table is bytes, at most 14 of them a global; the globals below an index fill so many granules; a refusal has
+  -- one of six numbers, and an index that they bound
   pub record Writes (n : ℕ) : Type 0 where
     pub taken-if : Takes n → writtenOf addresses sizes n ≡ good (tableOf addresses sizes)
     pub taken-only-if : (table : List ℕ) → writtenOf addresses sizes n ≡ good table → Takes n × (table ≡ tableOf addresses sizes)
@@ -65,6 +70,9 @@ module _ (addresses sizes : List ℕ) where
     pub refused-only-if : (r : Refusal) → writtenOf addresses sizes n ≡ bad r → Refuses n r
     pub bytes : (i : ℕ) → getD (tableOf addresses sizes) i 0 < 256
     pub short : Takes n → length (tableOf addresses sizes) ≤ 14 * length addresses
+    pub few : (i : ℕ) → FitBelow i → granule * i ≤ addressLimit
+    pub numbered : (r : Refusal) → Refuses n r → listed writerNumbers (r .number) ≡ true
+    pub indexed : (r : Refusal) → Refuses n r → granule * r .position ≤ addressLimit
 
 -- ---- reading and writing
 

@@ -1,21 +1,20 @@
 -- What the checks of a listed global say, and the lists taken apart at an index.
 -- Assumes nothing.
-use Prim.Native.Nat.{ℕ, zero, suc, _+_, _*_, _-_, _/_, _%_, _≤_, _<_}
-use mathlib.Core.Path.{_≡_, refl, _∙_}
-use mathlib.Core.Bool.{Bool, true, false, not, _&&_}
-use mathlib.Core.List.{List, [], _∷_, _++_}
+use Prim.Native.Nat.{ℕ, _+_, _-_, _/_, _%_, _≤_, _<_}
+use mathlib.Core.Path.{_≡_}
+use mathlib.Core.Bool.{_&&_}
+use mathlib.Core.List.{List, _++_}
 use native.Mathlib.Numerals.{add-one}
 use native.Mathlib.Omega.{arith}
 use lib.ListN.{length, getD, drop}
 use lib.Seq.{drop-cons}
-use lib.Dec.{leb, eqb}
-use borrow.Author.Tests.{eqb-true, eqb-false, eq-eqb, ne-eqb, leb-true, le-leb}
-use Rattle.rules.specs.Outcome.{good, bad, andThen}
+use lib.Dec.{eqb}
+use borrow.Author.Tests.{eqb-true, eqb-false, eq-eqb, ne-eqb, leb-true, le-leb, not-true}
+use Rattle.rules.specs.Outcome.{good, andThen}
 use Rattle.rules.specs.Checks.{runs}
 use Rattle.rules.specs.Limits.{addressLimit, granule}
 use Rattle.rules.specs.Writer.{descriptorOf, tableFrom, listedChecks, listCheck}
-use Rattle.rules.specs.declared.Refusal.{Refusal}
-use Rattle.rules.proofs.OutcomeLaws.{never, and-left, and-right, require-held, require-true}
+use Rattle.rules.proofs.OutcomeLaws.{and-left, and-right, require-held}
 use Rattle.rules.proofs.ChecksLaws.{all-runs, runs-all}
 
 -- a global that passes, after one that ends at end
@@ -25,10 +24,6 @@ pub record Listed (end a s : ℕ) : Type 0 where
   pub whole-address : a % granule ≡ 0
   pub after : end ≤ a
   pub low : a + s ≤ addressLimit
-
-not-true : (b : Bool) → not b ≡ true → b ≡ false
-not-true true h = search never
-not-true false h = refl
 
 pub listed-good : (i end a s : ℕ) → runs (listedChecks i end a s) ≡ good tt → Listed end a s
 listed-good i end a s h =
@@ -48,8 +43,10 @@ good-listed i end a s h =
     let f = h .filled in
     all-runs (listedChecks i end a s) (
       rw (ne-eqb s 0 (λ q. omega arith)),
-      (rw (eq-eqb (s % granule) 0 (h .whole-size), eq-eqb (a % granule) 0 (h .whole-address)),
-      (rw (le-leb end a (h .after)), (rw (le-leb (a + s) addressLimit (h .low)), tt))),
+      (
+        rw (eq-eqb (s % granule) 0 (h .whole-size), eq-eqb (a % granule) 0 (h .whole-address)),
+        (rw (le-leb end a (h .after)), (rw (le-leb (a + s) addressLimit (h .low)), tt)),
+      ),
     )
 
 -- ---- from an index on

@@ -111,6 +111,10 @@ over-split [] (y ∷ s) h = absurd (not-suc-le-zero h)
 over-split (x ∷ d) [] h = refl
 over-split (x ∷ d) (y ∷ s) h = ap (λ (t : List ℕ). y ∷ t) (over-split d s (le-of-suc-le-suc h))
 
+pub put-front : (s d : List ℕ) → length s ≤ length d → put d 0 s ≡ s ++ drop (length s) d
+unfolding put
+put-front s d h = over-split d s h
+
 pub put-split : (a : ℕ) (d s : List ℕ) → a + length s ≤ length d → put d a s ≡ take a d ++ (s ++ drop (a + length s) d)
 unfolding put
 put-split zero d s h =

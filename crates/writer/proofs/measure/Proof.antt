@@ -126,9 +126,15 @@ loop-again c =
     let d = c .descriptor-length .ensures in
     let t = l .inv .1 .1 .0 in (
       omega arith,
-      (g .low, (omega arith, l .inv .1 .1 .1 ∙ measured-next (a .addresses .now) (a .sizes .now) (l .i) (l .end) (A .element .result)
-      (S .element2 .result) (A .element .ensures) (S .element2 .ensures) (omega arith) (F .pre) (l .total) (c .descriptor-length .result)
-      (J .judge .result) (J .judge .ensures) (c .before .if1 .left) d)),
+      (
+        g .low,
+        (
+          omega arith,
+          l .inv .1 .1 .1 ∙ measured-next (a .addresses .now) (a .sizes .now) (l .i) (l .end) (A .element .result)
+              (S .element2 .result) (A .element .ensures) (S .element2 .ensures) (omega arith) (F .pre) (l .total) (c .descriptor-length .result)
+              (J .judge .result) (J .judge .ensures) (c .before .if1 .left) d,
+        ),
+      ),
     )
 
 -- src/lib.rt:105:1

@@ -37,7 +37,7 @@ write-descriptor-requires c κs =
     let a = F .args in
     let l = L .loop in
     let w = left-now (a .addresses .now) (a .sizes .now) (a .buffer .now) (l .i) (l .end) (l .at) (l .buffer) (A .element .result)
-        (S .element2 .result) (l .inv) (A .element .ensures) (S .element2 .ensures) (omega arith) (F .pre .0) in
+    (S .element2 .result) (l .inv) (A .element .ensures) (S .element2 .ensures) (omega arith) (F .pre .0) in
     let low = w .0 .low in
     (omega arith, w .1)
 
@@ -50,7 +50,7 @@ add-end c =
     let a = F .args in
     let l = L .loop in
     let w = left-now (a .addresses .now) (a .sizes .now) (a .buffer .now) (l .i) (l .end) (l .at) (l .buffer) (A .element .result)
-        (S .element2 .result) (l .inv) (A .element .ensures) (S .element2 .ensures) (omega arith) (F .pre .0) in
+    (S .element2 .result) (l .inv) (A .element .ensures) (S .element2 .ensures) (omega arith) (F .pre .0) in
     let low = w .0 .low in
     omega arith
 
