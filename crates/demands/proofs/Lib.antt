@@ -13,6 +13,7 @@ pub mod Refusals
 pub mod Steps
 pub mod Spelling
 pub mod Written
+pub mod Least
 pub mod Rewritten
 pub mod Writer
 pub mod Theorem

@@ -6,12 +6,12 @@ use mathlib.Core.Bool.{Bool, true, false, cond, not}
 use mathlib.Core.List.{List, [], _∷_, _++_, append-assoc}
 use native.Mathlib.Omega.{arith}
 use lib.ListN.{length, getD, drop, drop-of-length-le, length-map, List·getD-map}
-use lib.Dec.{ltb, leb, eqb}
+use lib.Dec.{leb, eqb}
 use borrow.Author.Tests.{leb-true, lt-ltb, le-ltb, eqb-true}
 use Rattle.rules.specs.Outcome.{good}
 use Rattle.rules.specs.Limits.{addressLimit, granule}
-use Rattle.rules.specs.Descriptors.{Uleb, number, malformed, ulebAt, padded, sizeLimit, shortSecond, shortFirst, shortAt}
-use Rattle.rules.specs.Descriptors.{Read, finished, global, globalAfter, second, descriptor, stepAt, tableStart}
+use Rattle.rules.specs.Descriptors.{Uleb, number, malformed, ulebAt, padded, sizeLimit, shortSecond, shortFirst}
+use Rattle.rules.specs.Descriptors.{Read, finished, global, globalAfter, second, descriptor, tableStart}
 use Rattle.rules.specs.Writer.{uleb, descriptorOf, tableFrom, tableOf}
 use Rattle.rules.specs.Choices.{globalAt}
 use Rattle.rules.specs.declared.Global.{Global}
@@ -21,8 +21,9 @@ use Rattle.laws.proofs.Checks.{good-same}
 use Rattle.laws.proofs.Globals.{Chain, step-next, chain-at, chain-rise}
 use Rattle.demands.specs.Writer.{Whole, Fits, Takes, addressesOf, sizesOf, Lists, Shortest, WritesBack}
 use Rattle.demands.proofs.Spelling.{unpadded-tight, uleb-respelt}
-use Rattle.demands.proofs.Steps.{steps}
+use Rattle.demands.proofs.Steps.{steps, step-descriptor}
 use Rattle.demands.proofs.Written.{bytesOf, written-reads}
+use Rattle.demands.proofs.Least.{lists-fewest}
 
 -- ---- they are taken
 
@@ -125,19 +126,6 @@ module _ (s : List ℕ) (at index end : ℕ) (r : Read) where
             let k : sizeLimit * (v / sizeLimit) + v % sizeLimit ≡ v = omega arith in
             global-rewrites (v / sizeLimit) (v % sizeLimit) next (rw (lt-ltb (v % sizeLimit) sizeLimit (omega arith), k) h) e
 
-step-rewrites : (s : List ℕ) (index : ℕ) (c : Cursor) (r : Read) → ((i : ℕ) → getD s i 0 < 256) → shortAt s (c .position) ≡ true
-    → stepAt index s c ≡ good r → Rewrites s (c .position) (c .end) r
-unfolding stepAt
-step-rewrites s index c r bytes short e =
-    let a = cond-held _ (leb (c .position) (length s)) _ e in
-    let b = cond-held _ (eqb (c .end % granule) 0) _ (a .1) in
-    let d = cond-held _ (leb (c .end) addressLimit) _ (b .1) in
-    go (ltb (c .position) (length s)) (d .1)
-  where
-    go : (t : Bool) → cond t (descriptor index s (c .end) (ulebAt s (c .position))) (good finished) ≡ good r → Rewrites s (c .position) (c .end) r
-    go true q = descriptor-rewrites s (c .position) index (c .end) r bytes (ulebAt s (c .position)) refl short q
-    go false q = good-same (λ (r : Read). Rewrites s (c .position) (c .end) r) finished r q tt
-
 -- ---- and so does a table of such descriptors
 
 lists-bytes : (s : List ℕ) (i : ℕ) (c : Cursor) (gs : List Global) → ((i : ℕ) → getD s i 0 < 256) → Lists s i c gs → Shortest s i c gs
@@ -145,7 +133,8 @@ lists-bytes : (s : List ℕ) (i : ℕ) (c : Cursor) (gs : List Global) → ((i :
 unfolding tableFrom
 lists-bytes s i c [] bytes l short = let e = steps i s c .step-finished l in drop-of-length-le s {i = c .position} (omega arith)
 lists-bytes s i c (g ∷ gs) bytes l short =
-    let h = step-rewrites s i c (global g (l .next)) bytes (short .0) (l .reads) in
+    let d = step-descriptor i s c g (l .next) (l .reads) in
+    let h = descriptor-rewrites s (c .position) i (c .end) (global g (l .next)) bytes (ulebAt s (c .position)) refl (short .0) d in
     let e : granule * g .granules / granule ≡ g .granules = omega arith in
     let k = steps i s c .step-global g (l .next) (l .reads) .ends in
     let rest = lists-bytes s (i + 1) (l .next) gs bytes (l .rest) (short .1 (l .next) (l .reads)) in
@@ -158,4 +147,5 @@ write-back s gs bytes l =
       takes = chain-takes gs chain;
       back-if = λ short. sym (lists-bytes s 0 tableStart gs bytes l short);
       back-only-if = λ e. written-reads s 0 tableStart gs refl (omega arith) (omega arith) chain (sym e) .1;
+      least = omega (arith, lists-fewest s 0 tableStart gs l);
     }

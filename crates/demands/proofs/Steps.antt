@@ -12,6 +12,7 @@ use Rattle.rules.specs.Outcome.{good}
 use Rattle.rules.specs.Limits.{addressLimit, granule}
 use Rattle.rules.specs.Descriptors.{Uleb, number, malformed, extend, lastLimit, ulebIn, ulebAt}
 use Rattle.rules.specs.Descriptors.{Read, finished, global, globalAfter, second, descriptor, stepAt}
+use Rattle.rules.specs.declared.Global.{Global}
 use Rattle.rules.specs.declared.Cursor.{Cursor}
 use Rattle.rules.proofs.OutcomeLaws.{bad-good, cond-held}
 use Rattle.laws.proofs.Checks.{cond-case, good-same}
@@ -99,6 +100,21 @@ found index s c r e =
     go false q l e =
         let w = ltb-false (c .position) (length s) q in
         good-same (λ (r : Read). Found (c .position) (length s) r) finished r e (omega arith)
+
+-- a step that gives a global has read its descriptor
+pub step-descriptor : (index : ℕ) (s : List ℕ) (c : Cursor) (g : Global) (next : Cursor) → stepAt index s c ≡ good (global g next)
+    → descriptor index s (c .end) (ulebAt s (c .position)) ≡ good (global g next)
+unfolding stepAt
+step-descriptor index s c g next e =
+    let a = cond-held _ (leb (c .position) (length s)) _ e in
+    let b = cond-held _ (eqb (c .end % granule) 0) _ (a .1) in
+    let d = cond-held _ (leb (c .end) addressLimit) _ (b .1) in
+    go (ltb (c .position) (length s)) (d .1)
+  where
+    go : (t : Bool) → cond t (descriptor index s (c .end) (ulebAt s (c .position))) (good finished) ≡ good (global g next)
+        → descriptor index s (c .end) (ulebAt s (c .position)) ≡ good (global g next)
+    go true q = q
+    go false q = let z : _≡_ {A = ℕ} 0 1 = cc in absurd (omega arith)
 
 pub steps : (index : ℕ) (table : List ℕ) (c : Cursor) → Steps index table c
 unfolding stepAt

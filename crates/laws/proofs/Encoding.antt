@@ -1,17 +1,18 @@
--- The bytes of ULEB128 numbers and of descriptors, as they are written: what follows what, and how many they are.
+-- The bytes of ULEB128 numbers and of descriptors, as they are written: what follows what, how many they are, and that each is below 256.
 -- Assumes nothing.
 use Prim.Native.Nat.{ℕ, zero, suc, _+_, _*_, _-_, _/_, _%_, _^_, _≤_, _<_}
 use mathlib.Core.Path.{_≡_, refl, sym, ap, _∙_}
 use mathlib.Core.List.{List, [], _∷_, _++_}
+use mathlib.Core.Logic.{⊎-elim}
 use native.Mathlib.Nat.{pow-suc}
 use native.Mathlib.Omega.{arith}
-use lib.ListN.{length, length-append}
+use lib.ListN.{length, getD, length-append}
 use lib.Dec.{ltb}
 use borrow.Author.Tests.{ltb-true, ltb-false, lt-ltb, le-ltb}
 use Rattle.rules.specs.Limits.{addressLimit, granule}
 use Rattle.rules.specs.Descriptors.{sizeLimit}
-use Rattle.rules.specs.Writer.{ulebBytes, uleb, descriptorOf}
-use Rattle.laws.proofs.Checks.{cond-case, cond-both}
+use Rattle.rules.specs.Writer.{ulebBytes, uleb, descriptorOf, tableFrom, tableOf}
+use Rattle.laws.proofs.Checks.{cond-case, cond-both, le-or-lt}
 
 -- ---- a number
 
@@ -61,6 +62,19 @@ bytes-most (suc n) (suc k) v e =
 pub uleb-most : (v : ℕ) → v < 2 ^ 64 → length (uleb v) ≤ 10
 uleb-most v h = bytes-most 10 10 v (record { some = omega arith; room = omega arith })
 
+-- the low three bits change nothing in how many
+pub uleb-low : (v low : ℕ) → v % sizeLimit ≡ 0 → low < sizeLimit → length (uleb (v + low)) ≡ length (uleb v)
+unfolding ulebBytes
+uleb-low v low z l = ⊎-elim more last (le-or-lt 128 v)
+  where
+    more : 128 ≤ v → length (uleb (v + low)) ≡ length (uleb v)
+    more h =
+        let e : (v + low) / 128 ≡ v / 128 = omega arith in
+        rw (le-ltb (v + low) 128 (omega arith), le-ltb v 128 h, e)
+
+    last : v < 128 → length (uleb (v + low)) ≡ length (uleb v)
+    last h = rw (uleb-last (v + low) (omega arith), uleb-last v h)
+
 -- ---- a descriptor
 
 -- numbers up to 2^48 have seven bytes at most
@@ -76,3 +90,45 @@ descriptor-short distance granules d g =
     let one = uleb-short (sizeLimit * distance) (omega arith) in
     let two = uleb-short (granules - 1) (omega arith) in
     rw length-append (omega arith))
+
+-- ---- each is a byte
+
+-- each element is below 256; past the end stands 0
+abbrev Bytes : List ℕ → Type 0
+Bytes t = (i : ℕ) → getD t i 0 < 256
+
+cons-bytes : (b : ℕ) (t : List ℕ) → b < 256 → Bytes t → Bytes (b ∷ t)
+cons-bytes b t h k zero = h
+cons-bytes b t h k (suc i) = k i
+
+append-bytes : (t w : List ℕ) → Bytes t → Bytes w → Bytes (t ++ w)
+append-bytes [] w h k i = k i
+append-bytes (b ∷ t) w h k zero = h 0
+append-bytes (b ∷ t) w h k (suc i) = append-bytes t w (λ j. h (suc j)) k i
+
+uleb-bytes : (n v : ℕ) → Bytes (ulebBytes n v)
+unfolding ulebBytes
+uleb-bytes zero v = λ i. omega arith
+uleb-bytes (suc n) v =
+    let again = uleb-bytes n (v / 128) in
+    cond-case Bytes (ltb v 128) _ _
+    (λ q. let h = ltb-true v 128 q in cons-bytes v [] (omega arith) (λ i. omega arith))
+    (λ _. cons-bytes (v % 128 + 128) (ulebBytes n (v / 128)) (omega arith) again)
+
+descriptor-bytes : (distance granules : ℕ) → Bytes (descriptorOf distance granules)
+descriptor-bytes distance granules =
+    cond-case Bytes (ltb granules sizeLimit) _ _
+    (λ _. uleb-bytes 10 (sizeLimit * distance + granules))
+    (λ _. append-bytes (uleb (sizeLimit * distance)) (uleb (granules - 1)) (uleb-bytes 10 (sizeLimit * distance)) (uleb-bytes 10 (granules - 1)))
+
+table-from-bytes : (end : ℕ) (addresses sizes : List ℕ) → Bytes (tableFrom end addresses sizes)
+unfolding tableFrom
+table-from-bytes end [] sizes = λ i. omega arith
+table-from-bytes end (a ∷ addresses) [] = λ i. omega arith
+table-from-bytes end (a ∷ addresses) (s ∷ sizes) =
+    append-bytes (descriptorOf ((a - end) / granule) (s / granule)) (tableFrom (a + s) addresses sizes)
+    (descriptor-bytes ((a - end) / granule) (s / granule)) (table-from-bytes (a + s) addresses sizes)
+
+-- of any lists, taken or not
+pub table-bytes : (addresses sizes : List ℕ) (i : ℕ) → getD (tableOf addresses sizes) i 0 < 256
+table-bytes addresses sizes = table-from-bytes 0 addresses sizes
