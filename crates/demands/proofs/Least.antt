@@ -20,7 +20,7 @@ use Rattle.laws.proofs.Checks.{cond-case, good-same}
 use Rattle.laws.proofs.Encoding.{uleb-low}
 use Rattle.demands.specs.Writer.{addressesOf, sizesOf, Lists}
 use Rattle.demands.proofs.Steps.{steps, step-descriptor}
-use Rattle.demands.proofs.Written.{bytesOf}
+use Rattle.demands.proofs.Written.{written}
 
 -- ---- a number
 
@@ -67,7 +67,7 @@ two-fewest v w z =
 -- what was read at a position takes no fewer bytes than it is written in
 abbrev Fills : ℕ → ℕ → Read → Type 0
 Fills at end finished = Unit
-Fills at end (global g c) = at + length (bytesOf end g) ≤ c .position
+Fills at end (global g c) = at + length (written end g) ≤ c .position
 
 module _ (at index end : ℕ) (r : Read) where
   global-fills : (distance granules next : ℕ) → at + length (descriptorOf distance granules) ≤ next

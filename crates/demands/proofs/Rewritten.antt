@@ -22,7 +22,7 @@ use Rattle.laws.proofs.Globals.{Chain, step-next, chain-at, chain-rise}
 use Rattle.demands.specs.Writer.{Whole, Fits, Takes, addressesOf, sizesOf, Lists, Shortest, WritesBack}
 use Rattle.demands.proofs.Spelling.{unpadded-tight, uleb-respelt}
 use Rattle.demands.proofs.Steps.{steps, step-descriptor}
-use Rattle.demands.proofs.Written.{bytesOf, written-reads}
+use Rattle.demands.proofs.Written.{written, written-reads}
 use Rattle.demands.proofs.Least.{lists-fewest}
 
 -- ---- they are taken
@@ -84,7 +84,7 @@ module _ (gs : List Global) where
 -- what was read at a position stands there as it is written
 abbrev Rewrites : List ℕ → ℕ → ℕ → Read → Type 0
 Rewrites s at end finished = Unit
-Rewrites s at end (global g c) = drop at s ≡ bytesOf end g ++ drop (c .position) s
+Rewrites s at end (global g c) = drop at s ≡ written end g ++ drop (c .position) s
 
 module _ (s : List ℕ) (at index end : ℕ) (r : Read) where
   global-rewrites : (distance granules next : ℕ) → drop at s ≡ descriptorOf distance granules ++ drop next s

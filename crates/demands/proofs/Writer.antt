@@ -20,12 +20,18 @@ use Rattle.rules.proofs.ChecksLaws.{first-runs, runs-first}
 use Rattle.rules.proofs.MemoryLaws.{put-front}
 use Rattle.laws.proofs.Checks.{andThen-bad, require-stopped, le-or-lt}
 use Rattle.laws.proofs.Listed.{Listed, listed-good, good-listed, check-at, table-at}
-use Rattle.laws.proofs.Encoding.{descriptor-short}
+use Rattle.laws.proofs.Encoding.{descriptor-short, table-bytes}
 use Rattle.demands.specs.Table.{listed}
 use Rattle.demands.specs.Demands.{Exactly}
 use Rattle.demands.specs.Writer.{endBefore, Whole, Fits, Wrong, empty, uneven, before-end, high, FitBelow, Takes, Refuses, unequal, at-global, small}
-use Rattle.demands.specs.Writer.{writerNumbers, Writes, WriteCall, WriteKept}
+use Rattle.demands.specs.Writer.{writerNumbers, Writes, WriteCall, WriteKept, WriterClaim}
 use Rattle.demands.proofs.Exactly.{exactly}
+use Rattle.demands.proofs.Written.{read-back}
+use Rattle.demands.proofs.Rewritten.{write-back}
+
+-- an index from i on is i, or one after it
+here-or-later : (P : ℕ → Type 0) (i j : ℕ) → i ≤ j → P i → (suc i ≤ j → P j) → P j
+here-or-later P i j l here later = ⊎-elim later (λ k. let q : i ≡ j = omega arith in subst P q here) (le-or-lt (suc i) j)
 
 module _ (addresses sizes : List ℕ) where
   -- ---- one global
@@ -146,20 +152,21 @@ module _ (addresses sizes : List ℕ) where
     unfolding listCheck
     from-end i k = rw (drop-of-length-le addresses k)
 
-    fits-from : (n i : ℕ) → i + n ≡ length addresses → ((j : ℕ) → i ≤ j → j < length addresses → Fits addresses sizes j) → checkFrom i ≡ good tt
+    fits-from : (n i : ℕ) → i + n ≡ length addresses → ((j : ℕ) → i ≤ j → j < length addresses → Fits addresses sizes j)
+        → checkFrom i ≡ good tt
     fits-from zero i e h = from-end i (omega arith)
     fits-from (suc n) i e h =
         let here = good-listed i _ _ _ (fits-listed i (h i (omega arith) (omega arith))) in
         let rest = fits-from n (suc i) (omega arith) (λ j a b. h j (omega arith) b) in
         from-at i (omega arith) ∙ rw (here, rest)
 
-    from-fits : (n i : ℕ) → i + n ≡ length addresses → checkFrom i ≡ good tt → (j : ℕ) → i ≤ j → j < length addresses → Fits addresses sizes j
+    from-fits : (n i : ℕ) → i + n ≡ length addresses → checkFrom i ≡ good tt → (j : ℕ) → i ≤ j → j < length addresses
+        → Fits addresses sizes j
     from-fits zero i e h j a b = absurd (omega arith)
     from-fits (suc n) i e h j a b =
         let p = andThen-good (runs (checksAt i)) _ (sym (from-at i (omega arith)) ∙ h) in
-        ⊎-elim (λ k. from-fits n (suc i) (omega arith) (p .rest) j k b)
-        (λ k. let q : i ≡ j = omega arith in subst (λ (x : ℕ). Fits addresses sizes x) q (listed-fits i (listed-good i _ _ _ (p .here))))
-        (le-or-lt (suc i) j)
+        here-or-later (λ (x : ℕ). Fits addresses sizes x) i j a (listed-fits i (listed-good i _ _ _ (p .here)))
+        (λ k. from-fits n (suc i) (omega arith) (p .rest) j k b)
 
     -- the first fault from the index i on
     record FaultFrom (i : ℕ) (r : Refusal) : Type 0 where
@@ -187,7 +194,7 @@ module _ (addresses sizes : List ℕ) where
           at = z .at;
           from = omega (arith, z .from);
           below = z .below;
-          before = λ j a b. ⊎-elim (λ k. z .before j k b) (λ k. let q : i ≡ j = omega arith in subst (λ (x : ℕ). Fits addresses sizes x) q f) (le-or-lt (suc i) j);
+          before = λ j a b. here-or-later (λ (x : ℕ). Fits addresses sizes x) i j a f (λ k. z .before j k b);
           fault = z .fault;
         }
 
@@ -279,7 +286,7 @@ module _ (addresses sizes : List ℕ) where
       taken-only-if = λ table e. let h = outcome .taken-only-if table e in (all-takes (h .0), h .1);
       refused-if = λ r h. outcome .refused-if r (refuses-first r h);
       refused-only-if = λ r e. first-refuses r (outcome .refused-only-if r e);
-      bytes = ?;
+      bytes = table-bytes addresses sizes;
       short = λ t. length-from (t .as-many) (length addresses) 0 (omega arith) (λ j a b. t .fit j b);
       few = fit-few;
       numbered = refuses-numbered;
@@ -315,3 +322,8 @@ kept addresses sizes lent left answer c =
       table-left = λ k q. bad-good (sym a ∙ q);
       refused = λ r q. let z : s ≡ r = cc in (w .refused-only-if r (e ∙ ap bad z), b);
     }
+
+-- ---- the demands
+
+pub writer : WriterClaim
+writer = record { writes = writes; read-back = read-back; write-back = write-back; kept = kept }

@@ -89,12 +89,12 @@ described s at distance granules post some low lower h = ⊎-elim two one (le-or
 -- ---- a step, and a table
 
 -- the descriptor of a global after an end
-abbrev pub bytesOf : ℕ → Global → List ℕ
-bytesOf end g = descriptorOf ((g .start - end) / granule) (g .granules)
+abbrev pub written : ℕ → Global → List ℕ
+written end g = descriptorOf ((g .start - end) / granule) (g .granules)
 
 -- the cursor after it
 abbrev past : Cursor → Global → Cursor
-past c g = record { position = c .position + length (bytesOf (c .end) g); end = endOf g }
+past c g = record { position = c .position + length (written (c .end) g); end = endOf g }
 
 module _ (i : ℕ) (s : List ℕ) (c : Cursor) (g : Global) (whole : c .end % granule ≡ 0) where
   global-reads : c .end ≤ g .start → g .start % 16 ≡ 0 → endOf g ≤ addressLimit
@@ -127,14 +127,14 @@ written-reads s i c [] whole low within chain h =
 written-reads s i c (g ∷ gs) whole low within chain h =
     let e : granule * g .granules / granule ≡ g .granules = omega arith in
     let w = tableFrom (endOf g) (addressesOf gs) (sizesOf gs) in
-    let h₁ : drop (c .position) s ≡ bytesOf (c .end) g ++ w = rw e at h in
+    let h₁ : drop (c .position) s ≡ written (c .end) g ++ w = rw e at h in
     let starts = chain .starts in
     let aligned = chain .aligned in
     let inside = chain .inside in
     let d = described s (c .position) ((g .start - c .end) / granule) (g .granules) w (chain .filled) (omega arith) (omega arith) h₁ in
     let step = step-reads i s c g whole low starts aligned inside d in
     let moved = steps i s c .step-global g (past c g) step in
-    let h₂ = drop-past s (c .position) (bytesOf (c .end) g) w h₁ in
+    let h₂ = drop-past s (c .position) (written (c .end) g) w h₁ in
     let rest = written-reads s (i + 1) (past c g) gs (omega arith) inside (moved .within) (chain .rest) h₂ in (
       record { next = past c g; reads = step; rest = rest .0 },
       (d .short, λ next q. subst (λ (z : Cursor). Shortest s (i + 1) z gs) (same next (sym step ∙ q)) (rest .1)),

@@ -5,6 +5,7 @@ use mathlib.Core.List.{List}
 use Rattle.rules.specs.declared.Cursor.{Cursor}
 use Rattle.demands.specs.Table.{Table}
 use Rattle.demands.specs.Steps.{Steps}
+use Rattle.demands.specs.Writer.{WriterClaim}
 use Rattle.demands.specs.Demands.{Claim}
 use Rattle.demands.specs.Calls.{CallClaim}
 
@@ -15,5 +16,7 @@ pub record Promises : Type 0 where
   pub calls : CallClaim
   -- the descriptor reader alone, whatever it is handed
   pub steps : (index : ℕ) (table : List ℕ) (c : Cursor) → Steps index table c
+  -- the writer of descriptor tables
+  pub writer : WriterClaim
   -- the table of refusals, a row a number
   pub refusals : (f : List ℕ) → Table f

@@ -13,7 +13,7 @@ use borrow.Author.Tests.{eqb-true, eqb-false, eq-eqb, ne-eqb, leb-true, le-leb, 
 use Rattle.rules.specs.Outcome.{good, andThen}
 use Rattle.rules.specs.Checks.{runs}
 use Rattle.rules.specs.Limits.{addressLimit, granule}
-use Rattle.rules.specs.Writer.{descriptorOf, tableFrom, listedChecks, listCheck}
+use Rattle.rules.specs.Writer.{descriptorAfter, tableFrom, listedChecks, listCheck}
 use Rattle.rules.proofs.OutcomeLaws.{and-left, and-right, require-held}
 use Rattle.rules.proofs.ChecksLaws.{all-runs, runs-all}
 
@@ -59,7 +59,7 @@ module _ (addresses sizes : List ℕ) (i : ℕ) (l : i < length addresses) (k : 
   check-at end = rw (drop-cons addresses i 0 l, drop-cons sizes i 0 k, add-one)
 
   pub table-at : (end : ℕ) → tableFrom end (drop i addresses) (drop i sizes)
-      ≡ descriptorOf ((getD addresses i 0 - end) / granule) (getD sizes i 0 / granule)
+      ≡ descriptorAfter end (getD addresses i 0) (getD sizes i 0)
       ++ tableFrom (getD addresses i 0 + getD sizes i 0) (drop (i + 1) addresses) (drop (i + 1) sizes)
   unfolding tableFrom
   table-at end = rw (drop-cons addresses i 0 l, drop-cons sizes i 0 k, add-one)

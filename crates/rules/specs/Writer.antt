@@ -25,11 +25,15 @@ abbrev pub descriptorOf : ℕ → ℕ → List ℕ
 descriptorOf distance granules =
     cond (ltb granules sizeLimit) (uleb (sizeLimit * distance + granules)) (uleb (sizeLimit * distance) ++ uleb (granules - 1))
 
--- the descriptors of globals by address and byte size, after one that ends at end
+-- the descriptor of a global by address and byte size, after one that ends at end
+abbrev pub descriptorAfter : ℕ → ℕ → ℕ → List ℕ
+descriptorAfter end a s = descriptorOf ((a - end) / granule) (s / granule)
+
+-- the descriptors of a list of them
 unfoldable pub tableFrom : ℕ → List ℕ → List ℕ → List ℕ
 tableFrom end [] sizes = []
 tableFrom end (a ∷ addresses) [] = []
-tableFrom end (a ∷ addresses) (s ∷ sizes) = descriptorOf ((a - end) / granule) (s / granule) ++ tableFrom (a + s) addresses sizes
+tableFrom end (a ∷ addresses) (s ∷ sizes) = descriptorAfter end a s ++ tableFrom (a + s) addresses sizes
 
 -- the table: the first global counts from address 0
 abbrev pub tableOf : List ℕ → List ℕ → List ℕ

@@ -13,7 +13,7 @@ use Rattle.rules.specs.Checks.{runs}
 use Rattle.rules.specs.Limits.{granule}
 use Rattle.rules.specs.Memory.{put}
 use Rattle.rules.specs.Descriptors.{sizeLimit}
-use Rattle.rules.specs.Writer.{uleb, descriptorOf, tableFrom, tableOf, listedChecks, listCheck}
+use Rattle.rules.specs.Writer.{uleb, descriptorOf, descriptorAfter, tableFrom, tableOf, listedChecks, listCheck}
 use Rattle.rules.proofs.OutcomeLaws.{andThen-good}
 use Rattle.rules.proofs.MemoryLaws.{put-nil, put-cons, put-length, put-append}
 use Rattle.laws.proofs.Encoding.{uleb-last, uleb-more, descriptor-short}
@@ -74,7 +74,7 @@ pub judged-listed : (end a s number : ℕ) → Judged end a s number → number 
 judged-listed end a s number j n = listed-good 0 end a s (judged-good end a s number j n 0)
 
 -- a descriptor is no longer than its global
-pub listed-short : (end a s : ℕ) → Listed end a s → length (descriptorOf ((a - end) / granule) (s / granule)) ≤ s
+pub listed-short : (end a s : ℕ) → Listed end a s → length (descriptorAfter end a s) ≤ s
 listed-short end a s h =
     let f = h .filled in
     let w = h .whole-size in
@@ -107,14 +107,14 @@ module _ (addresses sizes : List ℕ) where
 
     -- the descriptors from here on
     pub left-at : tableFrom end (drop i addresses) (drop i sizes)
-        ≡ descriptorOf ((a - end) / granule) (s / granule) ++ tableFrom (a + s) (drop (i + 1) addresses) (drop (i + 1) sizes)
+        ≡ descriptorAfter end a s ++ tableFrom (a + s) (drop (i + 1) addresses) (drop (i + 1) sizes)
     left-at = rw (p, q) (table-at addresses sizes i l (omega arith) end)
 
     pub left-length : length (tableFrom end (drop i addresses) (drop i sizes))
-        ≡ length (descriptorOf ((a - end) / granule) (s / granule)) + length (tableFrom (a + s) (drop (i + 1) addresses) (drop (i + 1) sizes))
+        ≡ length (descriptorAfter end a s) + length (tableFrom (a + s) (drop (i + 1) addresses) (drop (i + 1) sizes))
     left-length = rw (left-at, length-append)
 
-    pub measured-next : (total more number : ℕ) → Judged end a s number → number ≡ 0 → more ≡ length (descriptorOf ((a - end) / granule) (s / granule))
+    pub measured-next : (total more number : ℕ) → Judged end a s number → number ≡ 0 → more ≡ length (descriptorAfter end a s)
         → measured addresses sizes i end total ≡ measured addresses sizes (i + 1) (a + s) (total + more)
     measured-next total more number j n m = rw (check-of, judged-good end a s number j n i, left-length, m, add-assoc)
 
@@ -140,12 +140,12 @@ left-start addresses sizes lent h f = record { counted = omega arith; passed = h
 -- one descriptor more is written
 pub left-next : (addresses sizes lent : List ℕ) (i end at : ℕ) (b : List ℕ) (a s next : ℕ) (c : List ℕ) → Left addresses sizes lent i end at b
     → a ≡ getD addresses i 0 → s ≡ getD sizes i 0 → i < length addresses → length addresses ≡ length sizes
-    → next ≡ at + length (descriptorOf ((a - end) / granule) (s / granule)) → c ≡ put b at (descriptorOf ((a - end) / granule) (s / granule))
+    → next ≡ at + length (descriptorAfter end a s) → c ≡ put b at (descriptorAfter end a s)
     → Left addresses sizes lent (i + 1) (a + s) next c
 left-next addresses sizes lent i end at b a s next c w p q l e n m =
     let f = w .fits in
     let k = left-length addresses sizes i end a s p q l e in
-    let step = put-append b at (descriptorOf ((a - end) / granule) (s / granule)) (tableFrom (a + s) (drop (i + 1) addresses) (drop (i + 1) sizes)) in
+    let step = put-append b at (descriptorAfter end a s) (tableFrom (a + s) (drop (i + 1) addresses) (drop (i + 1) sizes)) in
     record {
       counted = omega arith;
       passed = passed-at addresses sizes i end a s p q l e (w .passed) .1;
@@ -157,7 +157,7 @@ left-next addresses sizes lent i end at b a s next c w p q l e n m =
 -- where the writing stands there is room, and the global was checked
 pub left-now : (addresses sizes lent : List ℕ) (i end at : ℕ) (b : List ℕ) (a s : ℕ) → Left addresses sizes lent i end at b
     → a ≡ getD addresses i 0 → s ≡ getD sizes i 0 → i < length addresses → length addresses ≡ length sizes
-    → Listed end a s × (at + length (descriptorOf ((a - end) / granule) (s / granule)) ≤ length b)
+    → Listed end a s × (at + length (descriptorAfter end a s) ≤ length b)
 left-now addresses sizes lent i end at b a s w p q l e =
     let f = w .fits in
     let n = w .same in

@@ -15,7 +15,8 @@ use Rattle.writer.proofs.write_uleb.Lts as lts
 
 abbrev Inv-loop : tie.InvT-loop
 Inv-loop buffer₀ from value at₀ v₀ buffer at v =
-    (v < 2 ^ 64) × ((at + length (uleb v) ≡ from + length (uleb value)) × ((length buffer ≡ length buffer₀) × (put buffer at (uleb v) ≡ put buffer₀ from (uleb value))))
+    (v < 2 ^ 64) × ((at + length (uleb v) ≡ from + length (uleb value))
+    × ((length buffer ≡ length buffer₀) × (put buffer at (uleb v) ≡ put buffer₀ from (uleb value))))
 
 abbrev μ-loop : tie.MeasureT-loop
 μ-loop buffer₀ from value at₀ v₀ buffer at v = v
