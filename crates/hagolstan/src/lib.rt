@@ -4,7 +4,7 @@ ghost use Rattle.rules.specs.Examine.{examinedOf};
 ghost use Rattle.rules.specs.Descriptors.{stepAt};
 ghost use Rattle.demands.specs.Calls.{buffers};
 ghost use Rattle.packing.specs.Packed.{packed, packedFacts, stepNumber, stepWords};
-ghost use Rattle.packing.specs.Exported.{Exported};
+ghost use Rattle.packing.specs.Exported.{Exported, TableExported};
 use rules::Answer;
 
 // Examines a file: position × 256 + refusal number, or globals × 256.
@@ -68,4 +68,12 @@ pub extern "C" fn hagolstan_step(
     ensures written { λ _. ⌜ now (words .exit) ≡ stepWords (stepAt index (now (table .entry)) (record { position = position; end = end })) (now (words .entry)) ⌝ }
 {
     packing::step_number(table, position, end, index, words)
+}
+
+// Writes a descriptor table: its length × 256, or index × 256 + refusal number with the buffer as lent.
+#[no_mangle]
+pub extern "C" fn hagolstan_write_table(addresses: &[u64], sizes: &[u64], buffer: &mut [u8]) -> u64
+    ensures { λ v. ⌜ TableExported (now (addresses .entry)) (now (sizes .entry)) (now (buffer .entry)) (now (buffer .exit)) v ⌝ }
+{
+    packing::table_number(addresses, sizes, buffer)
 }

@@ -1,13 +1,15 @@
 -- A refusal's number is from 1 to 255 and the counts fit seventeen bits, so the packed numbers can be taken apart.
 -- Assumes nothing.
 use Prim.Native.Nat.{ℕ, _/_, _%_, _≤_, _<_}
-use mathlib.Core.Path.{_≡_, refl, sym, subst}
+use mathlib.Core.Path.{_≡_, refl, sym, _∙_, subst}
 use mathlib.Core.Bool.{Bool, true, false, _&&_, _||_}
 use mathlib.Core.List.{List, [], _∷_}
 use native.Mathlib.Omega.{arith}
+use lib.ListN.{length}
 use lib.Dec.{leb, ltb, eqb}
 use borrow.Author.Tests.{leb-true, ltb-true, eqb-true}
 use Rattle.rules.specs.Outcome.{Outcome, good, bad, refusal}
+use Rattle.rules.specs.Limits.{addressLimit}
 use Rattle.rules.specs.declared.Refusal.{Refusal}
 use Rattle.rules.specs.declared.Facts.{Facts}
 use Rattle.rules.specs.declared.Mode.{Mode}
@@ -20,8 +22,10 @@ use Rattle.demands.specs.Calls.{Buffers, Call, Declined}
 use Rattle.demands.specs.Demands.{Counted}
 use Rattle.demands.proofs.Refusals.{examined-facts}
 use Rattle.demands.proofs.Calls.{calls}
-use Rattle.packing.specs.Packed.{packed, packedRefusal, modeNumber, switchNumber, factsNumber}
-use Rattle.packing.specs.Exported.{Told, ExportClaim, FactsTold, FactsClaim}
+use Rattle.demands.specs.Writer.{writerNumbers, Refuses, WriteCall, WriteKept}
+use Rattle.demands.proofs.Writer.{writes, kept}
+use Rattle.packing.specs.Packed.{packed, packedRefusal, packedLength, modeNumber, switchNumber, factsNumber}
+use Rattle.packing.specs.Exported.{Told, ExportClaim, TableTold, TableClaim, FactsTold, FactsClaim}
 
 -- every number of a list is from 1 to 255
 abbrev lowBytes : List ℕ → Bool
@@ -43,16 +47,15 @@ listed-low (y ∷ ys) x h l = go (eqb y x) refl l (listed-low ys x (and-right (l
         let b = ltb-true y 256 (and-right (leb 1 y) _ here) in
         (omega arith, omega arith)
 
-module _ (f : List ℕ) (bias : ℕ) (choices : List ℕ) (lent left : Buffers) where
-  -- a refusal is its number's parts
-  parts : (r : Refusal) (number : ℕ) → number ≡ packedRefusal r → Declined f bias choices lent left r
-      → ((number % 256 ≡ 0) → ⊥) × (refusal (number % 256) (number / 256) ≡ r)
-  parts r number e d =
-      let n = listed-low loadNumbers (r .number) refl (d .numbered .number-listed) in
-      let low : number % 256 ≡ r .number = omega arith in
-      let high : number / 256 ≡ r .position = omega arith in
-      ((λ z. omega arith), rw (low, high))
+-- a refusal is its number's parts
+parts : (r : Refusal) (number : ℕ) → number ≡ packedRefusal r → (1 ≤ r .number) × (r .number < 256)
+    → ((number % 256 ≡ 0) → ⊥) × (refusal (number % 256) (number / 256) ≡ r)
+parts r number e n =
+    let low : number % 256 ≡ r .number = omega arith in
+    let high : number / 256 ≡ r .position = omega arith in
+    ((λ z. omega arith), rw (low, high))
 
+module _ (f : List ℕ) (bias : ℕ) (choices : List ℕ) (lent left : Buffers) where
   told : (answer : Outcome Facts) (number : ℕ) → Call f bias choices lent left answer → number ≡ packed answer
       → Told f bias choices lent left number
   told (good a) number c e = record {
@@ -65,7 +68,7 @@ module _ (f : List ℕ) (bias : ℕ) (choices : List ℕ) (lent left : Buffers) 
   }
   told (bad r) number c e =
       let d = calls f bias choices lent left (bad r) c .declined r refl in
-      let p = parts r number e d in
+      let p = parts r number e (listed-low loadNumbers (r .number) refl (d .numbered .number-listed)) in
       record {
         taken = λ z. absurd (p .0 z);
         refused = λ z. subst (λ (r : Refusal). Declined f bias choices lent left r) (sym (p .1)) d;
@@ -73,6 +76,49 @@ module _ (f : List ℕ) (bias : ℕ) (choices : List ℕ) (lent left : Buffers) 
 
 pub exported : ExportClaim
 exported f bias choices lent left number x = told f bias choices lent left (x .answer) number (x .call) (x .packs)
+
+-- ---- the writer
+
+-- the answers fit
+module _ (addresses sizes lent left : List ℕ) (answer : Outcome ℕ) (c : WriteCall addresses sizes lent left answer) where
+  pub length-low : (n : ℕ) → answer ≡ good n → n ≤ addressLimit
+  length-low n e =
+      let t = kept addresses sizes lent left answer c .taken n e in
+      let w = writes addresses sizes (length lent) in
+      let short = w .short (t .0) in
+      let few = w .few (length addresses) (t .0 .fit) in
+      let same = t .1 in
+      omega arith
+
+  pub index-low : (r : Refusal) → answer ≡ bad r → r .position ≤ addressLimit
+  index-low r e =
+      let d = kept addresses sizes lent left answer c .refused r e in
+      let i = writes addresses sizes (length lent) .indexed r (d .0) in
+      omega arith
+
+pub table-exported : TableClaim
+table-exported addresses sizes lent left number x =
+    told-of (x .answer) (x .packs) (kept addresses sizes lent left (x .answer) (x .call))
+  where
+    told-of : (answer : Outcome ℕ) → number ≡ packedLength answer → WriteKept addresses sizes lent left answer
+        → TableTold addresses sizes lent left number
+    told-of (good n) e k =
+        let t = k .taken n refl in
+        let z : number / 256 ≡ n = omega arith in
+        record {
+          taken = λ _. (t .0, z ∙ t .1);
+          table-left = λ _. rw z (k .table-left n refl);
+          refused = λ q. absurd (q (omega arith));
+        }
+    told-of (bad r) e k =
+        let d = k .refused r refl in
+        let n = listed-low writerNumbers (r .number) refl (writes addresses sizes (length lent) .numbered r (d .0)) in
+        let p = parts r number e n in
+        record {
+          taken = λ q. absurd (p .0 q);
+          table-left = λ q. absurd (p .0 q);
+          refused = λ _. subst (λ (r : Refusal). Refuses addresses sizes (length lent) r × (left ≡ lent)) (sym (p .1)) d;
+        }
 
 -- ---- the facts
 

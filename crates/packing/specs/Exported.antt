@@ -2,13 +2,16 @@
 -- Assumes nothing.
 use Prim.Native.Nat.{ℕ, _/_, _%_, _^_}
 use mathlib.Core.Path.{_≡_}
-use mathlib.Core.List.{List}
+use mathlib.Core.List.{List, _++_}
+use lib.ListN.{length, drop}
 use Rattle.rules.specs.Outcome.{Outcome, good, bad, refusal}
 use Rattle.rules.specs.Examine.{examinedOf}
+use Rattle.rules.specs.Writer.{tableOf}
 use Rattle.rules.specs.declared.Refusal.{Refusal}
 use Rattle.rules.specs.declared.Facts.{Facts}
 use Rattle.demands.specs.Calls.{Buffers, Call, Declined, Accepted}
-use Rattle.packing.specs.Packed.{packed, modeNumber, switchNumber, packedFacts}
+use Rattle.demands.specs.Writer.{Takes, Refuses, WriteCall}
+use Rattle.packing.specs.Packed.{packed, packedLength, modeNumber, switchNumber, packedFacts}
 
 -- what the contract of `hagolstan_load` says: a call of the load, and its answer as one number
 pub record Exported (f : List ℕ) (bias : ℕ) (choices : List ℕ) (lent left : Buffers) (number : ℕ) : Type 0 where
@@ -30,6 +33,26 @@ pub record Told (f : List ℕ) (bias : ℕ) (choices : List ℕ) (lent left : Bu
 abbrev pub ExportClaim : Type 0
 ExportClaim = (f : List ℕ) (bias : ℕ) (choices : List ℕ) (lent left : Buffers) (number : ℕ)
     → Exported f bias choices lent left number → Told f bias choices lent left number
+
+-- ---- the writer
+
+-- what the contract of `hagolstan_write_table` says: a call of the writer, and its answer as one number
+pub record TableExported (addresses sizes lent left : List ℕ) (number : ℕ) : Type 0 where
+  pub answer : Outcome ℕ
+  pub call : WriteCall addresses sizes lent left answer
+  pub packs : number ≡ packedLength answer
+
+-- the low byte is 0 exactly where the table was written, and the rest is its length or the index; what the buffer then holds
+pub record TableTold (addresses sizes lent left : List ℕ) (number : ℕ) : Type 0 where
+  pub taken : number % 256 ≡ 0 → Takes addresses sizes (length lent) × (number / 256 ≡ length (tableOf addresses sizes))
+  pub table-left : number % 256 ≡ 0 → left ≡ tableOf addresses sizes ++ drop (number / 256) lent
+  pub refused : (number % 256 ≡ 0 → ⊥) → Refuses addresses sizes (length lent) (refusal (number % 256) (number / 256)) × (left ≡ lent)
+
+abbrev pub TableClaim : Type 0
+TableClaim = (addresses sizes lent left : List ℕ) (number : ℕ)
+    → TableExported addresses sizes lent left number → TableTold addresses sizes lent left number
+
+-- ---- the facts
 
 -- the facts of a file, each in its own bits: two of mode, heap and stack, seventeen of a count; all bits above are 0
 pub record FactsTold (a : Facts) (number : ℕ) : Type 0 where

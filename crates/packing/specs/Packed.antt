@@ -16,10 +16,19 @@ use Rattle.rules.specs.declared.Switch.the-variants as switch
 abbrev pub packedRefusal : Refusal → ℕ
 packedRefusal r = r .position * 256 + r .number
 
+-- a position below this goes into 64 bits beside a number
+abbrev pub packLimit : ℕ
+packLimit = 2 ^ 56
+
 -- or globals × 256
 abbrev pub packed : Outcome Facts → ℕ
 packed (good a) = a .globals * 256
 packed (bad r) = packedRefusal r
+
+-- or the bytes of a table × 256
+abbrev pub packedLength : Outcome ℕ → ℕ
+packedLength (good n) = n * 256
+packedLength (bad r) = packedRefusal r
 
 -- the mode: 0 absent, 1 synchronous, 2 asynchronous
 abbrev pub modeNumber : Mode → ℕ

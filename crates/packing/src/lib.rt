@@ -1,10 +1,10 @@
 // Answers as numbers and words: a refusal, the facts, a descriptor that was read.
 ghost use mathlib.Core.Path.{_≡_};
-ghost use Prim.Native.Nat.{_≤_};
+ghost use Prim.Native.Nat.{_≤_, _<_};
 ghost use Rattle.rules.specs.Outcome.{good};
 ghost use Rattle.rules.specs.Descriptors.{global, stepAt};
-ghost use Rattle.demands.specs.Table.{positionLimit};
-ghost use Rattle.packing.specs.Packed.{packedRefusal, modeNumber, switchNumber, factsNumber, stepNumber, stepWords};
+ghost use Rattle.packing.specs.Packed.{packLimit, packedRefusal, modeNumber, switchNumber, factsNumber, stepNumber, stepWords};
+ghost use Rattle.packing.specs.Exported.{TableExported};
 use rules::Cursor;
 use rules::Facts;
 use rules::Global;
@@ -12,6 +12,7 @@ use rules::Mode;
 use rules::Refusal;
 use rules::Step;
 use rules::Switch;
+use rules::TableAnswer;
 
 // Where the counts stand in the facts as one number: globals from bit 8 on, words from bit 25.
 const GLOBALS_UNIT: u64 = 256;
@@ -20,7 +21,7 @@ const WORDS_UNIT: u64 = 33554432;
 
 // A refusal as one number.
 pub fn pack_refusal(r: Refusal) -> u64
-    requires { ⌜ r .position ≤ positionLimit ⌝ }
+    requires { ⌜ r .position < packLimit ⌝ }
     ensures { λ v. ⌜ v ≡ packedRefusal r ⌝ }
 {
     r.position * 256 + r.number as u64
@@ -59,6 +60,17 @@ pub fn facts_number(a: Facts) -> u64
         + 64 * switch_number(stack)
         + GLOBALS_UNIT * (a.globals as u64)
         + WORDS_UNIT * (a.words as u64)
+}
+
+// Writes a descriptor table: its length as a number, or the refusal's.
+pub fn table_number(addresses: &[u64], sizes: &[u64], buffer: &mut [u8]) -> u64
+    ensures { λ v. ⌜ TableExported (now (addresses .entry)) (now (sizes .entry)) (now (buffer .entry)) (now (buffer .exit)) v ⌝ }
+{
+    let answer = writer::write_table(addresses, sizes, buffer);
+    match answer {
+        TableAnswer::Written(length) => length * 256,
+        TableAnswer::Refused(r) => pack_refusal(r),
+    }
 }
 
 // The words of a global that was read: its start and granules, and the moved cursor.

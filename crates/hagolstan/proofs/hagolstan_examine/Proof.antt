@@ -4,6 +4,7 @@ use Rattle.demands.proofs.Refusals.{examined-refusal}
 use Rattle.rules.specs.Examine.{examinedOf}
 use Rattle.rules.specs.Outcome.{bad}
 use mathlib.Core.Path.{_≡_}
+use native.Mathlib.Omega.{arith}
 use borrow.Author.Needs.{needs}
 use Rattle.hagolstan.proofs.hagolstan_examine.Statement.{statement}
 use Rattle.hagolstan.proofs.hagolstan_examine.Tie as tie
@@ -15,7 +16,8 @@ pack-refusal-requires c κs =
     let a = X .before .before .args in
     let r = c .before .answer3 .given .0 .0 in
     let e : examinedOf (a .file .now) ≡ bad r = rw (← X .examine-file .ensures, refused .answer2 .given .1) (cc) in
-    examined-refusal (a .file .now) r e .position-most
+    let most = examined-refusal (a .file .now) r e .position-most in
+    omega arith
 
 returns-2 : tie.Need-returns-2
 returns-2 c =

@@ -26,8 +26,9 @@ pack-refusal-requires c κs =
     let a = call .before .before .before .before .before .before .before .args in
     let r = c .before .answer3 .given .0 .0 in
     let e : ofAnswer (call .load-module .result) ≡ bad r = rw (refused .answer2 .given .1) (cc) in
-    calls (a .file .now) (a .bias) (a .choices .now) (buffers (a .memory .now) (a .plane .now)) _ _ (call .load-module .ensures)
-    .declined r e .numbered .position-most
+    let most = calls (a .file .now) (a .bias) (a .choices .now) (buffers (a .memory .now) (a .plane .now)) _ _ (call .load-module .ensures)
+    .declined r e .numbered .position-most in
+    omega arith
 
 -- a refusal is told once
 refused-same : (v : Answer) (p q : Refusal) → v ≡ answer.Refused p → v ≡ answer.Refused q → p ≡ q
