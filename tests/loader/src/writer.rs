@@ -10,7 +10,8 @@ pub const ENOUGH: usize = 14;
 #[inline]
 fn bytes_of(number: u64) -> usize {
     let bits = 64 - (number | 1).leading_zeros() as usize;
-    (bits + 6) / 7
+    // A seventh, rounded up.
+    (9 * bits + 64) / 64
 }
 
 /// Puts a number into a table; the position after it.

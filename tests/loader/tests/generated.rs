@@ -101,6 +101,9 @@ fn tables() {
     let total = count(20_000);
     let mut seen = [0u64; 7];
     let mut lengths = [0u64; 15];
+    // Where a number grows by a byte: the last before and the first after.
+    let turning: Vec<u64> = (1..=6).flat_map(|i| [(1 << (7 * i)) - 1, 1 << (7 * i)]).collect();
+    let mut turns = BTreeSet::new();
     let mut names = BTreeSet::new();
     for i in 0..total {
         let case = write_case(SEED, i);
@@ -126,6 +129,7 @@ fn tables() {
                 for bytes in bytes_of_descriptors(&table) {
                     lengths[bytes] += 1;
                 }
+                turns.extend(numbers(list).filter(|(_, n)| turning.contains(n)));
             }
         }
         seen[usize::from(got.0)] += 1;
@@ -134,10 +138,25 @@ fn tables() {
     println!("taken {}, refused 1 to 6: {:?}", seen[0], &seen[1..]);
     println!("descriptors of 1 to 14 bytes: {:?}", &lengths[1..]);
     assert!(seen.iter().all(|&n| n > 0));
-    assert!(lengths[1..].iter().all(|&n| n > 0));
+    assert!(total < 20_000 || lengths[1..].iter().all(|&n| n > 0));
+    assert!(total < 20_000 || turns.len() == 2 * turning.len(), "{turns:?}");
     let each =
         |c: &loader::generate::list::Change| names.contains(&format!("{}: {}", c.row, c.name));
     assert!(total < 20_000 || CHANGES.iter().all(each));
+}
+
+/// The numbers of a list's table: (false, first) and (true, second).
+fn numbers(list: &Listing) -> impl Iterator<Item = (bool, u64)> + '_ {
+    let ends = list.addresses.iter().zip(&list.sizes).map(|(address, size)| address + size);
+    let each = list.addresses.iter().zip(&list.sizes).zip(std::iter::once(0).chain(ends));
+    each.flat_map(|((address, size), last_end)| {
+        let (first, granules) = ((address - last_end) / 2, size / 16);
+        if granules < 8 {
+            vec![(false, first + granules)]
+        } else {
+            vec![(false, first), (true, granules - 1)]
+        }
+    })
 }
 
 fn bytes_of_descriptors(table: &[u8]) -> Vec<usize> {

@@ -11,11 +11,10 @@ use crate::ADDRESS_END;
 /// Granules below 2^48.
 const GRANULES: u64 = ADDRESS_END / 16;
 
-#[derive(Clone)]
-pub struct List {
-    pub addresses: Vec<u64>,
-    pub sizes: Vec<u64>,
-    pub buffer: usize,
+struct List {
+    addresses: Vec<u64>,
+    sizes: Vec<u64>,
+    buffer: usize,
 }
 
 impl List {
@@ -48,7 +47,7 @@ impl List {
     }
 
     /// The table of a list that is taken, one number after the other.
-    pub fn table(&self) -> Vec<u8> {
+    fn table(&self) -> Vec<u8> {
         let mut table = Vec::new();
         for (i, (address, size)) in self.addresses.iter().zip(&self.sizes).enumerate() {
             let (distance, granules) = ((address - self.last_end(i)) / 16, size / 16);
@@ -78,7 +77,7 @@ impl List {
         Listing { addresses: self.addresses, sizes: self.sizes, buffer_length: self.buffer }
     }
 
-    pub fn random(r: &mut Random) -> List {
+    fn random(r: &mut Random) -> List {
         let count = match r.below(64) {
             0 | 1 => 0,
             2..=15 => 1,
@@ -93,14 +92,13 @@ impl List {
     fn of(r: &mut Random, count: u64) -> List {
         let mut list = List::new();
         let mut at = 0;
-        // Some lists are of near and small globals alone.
-        let near = r.once_in(3);
+        // A list of far or large globals alone would soon be at 2^48.
+        let bits = r.pick(&[7, 14, 28, ALL]);
         for i in 0..count {
             // A granule is left for each global that follows.
             let left = GRANULES - at - (count - 1 - i);
-            let start = at + if near { r.below(5) } else { distance(r) }.min(left - 1);
-            let granules =
-                if near { r.from(1, 9) } else { granules(r) }.clamp(1, at + left - start);
+            let start = at + distance(r, bits).min(left - 1);
+            let granules = granules(r, bits).clamp(1, at + left - start);
             list.push(16 * start, 16 * granules);
             at = start + granules;
         }
@@ -109,31 +107,33 @@ impl List {
     }
 }
 
-/// A number at which ULEB128 grows by a byte, up to seven bytes.
-fn turn(r: &mut Random) -> u64 {
-    1 << (7 * r.from(1, 6))
+/// Bits of a number of granules, however large.
+const ALL: u64 = 44;
+
+/// A number at which ULEB128 grows by a byte.
+fn turn(r: &mut Random, bits: u64) -> u64 {
+    1 << (7 * r.from(1, bits / 7))
 }
 
 /// Granules before a global; often the first number is about to grow, or has just grown.
-fn distance(r: &mut Random) -> u64 {
+fn distance(r: &mut Random, bits: u64) -> u64 {
     match r.below(8) {
         0..=2 => 0,
         3 => r.below(3),
         4 => r.below(40),
-        5 => turn(r) / 8 + r.below(3) - 1,
-        6 => r.below(5_000),
-        _ => 1 << r.below(44),
+        5 | 6 => turn(r, bits) / 8 + r.below(3) - 1,
+        _ => 1 << r.below(bits),
     }
 }
 
 /// Granules of a global; often a second number is about to come or to grow.
-fn granules(r: &mut Random) -> u64 {
+fn granules(r: &mut Random, bits: u64) -> u64 {
     match r.below(8) {
         0..=2 => r.from(1, 6),
         3 | 4 => r.from(6, 9),
-        5 => turn(r) + r.below(3),
-        6 => r.below(300) + 1,
-        _ => 1 << r.below(44),
+        5 => turn(r, bits) + r.below(3),
+        6 => r.from(1, 300),
+        _ => 1 << r.below(bits),
     }
 }
 
@@ -245,15 +245,15 @@ pub const CHANGES: &[Change] = &[
     }),
     change(0, "the first number grows by a byte", |l, i, r| {
         given(i <= l.len())?;
-        // Numbers from 9 below to 16 above, with the size in it or not.
-        let address = l.last_end(i) + 16 * (turn(r) / 8 + r.below(3) - 1);
+        // Numbers from 8 below to 15 above, with the size in it or not.
+        let address = l.last_end(i) + 16 * (turn(r, ALL) / 8 + r.below(3) - 1);
         let size = 16 * r.from(1, 9);
         last_taken(l, r, i, address, size)
     }),
     change(0, "the second number grows by a byte", |l, i, r| {
         given(i <= l.len())?;
         let address = l.last_end(i) + 16 * r.below(20);
-        let size = 16 * (turn(r) + r.below(3));
+        let size = 16 * (turn(r, ALL) + r.below(3));
         last_taken(l, r, i, address, size)
     }),
     change(0, "fourteen bytes", |l, _, r| {
@@ -428,10 +428,9 @@ pub const CHANGES: &[Change] = &[
     }),
     change(5, "end at 2^64", |l, i, r| {
         let (address, _) = at(l, i)?;
-        given(address > 0 || i == 0)?;
-        let high = 16 * r.from(1, 9);
+        let last = 16 * r.from(1, 9);
         let (address, size) = if r.once_in(2) || address == 0 {
-            (0u64.wrapping_sub(high), high)
+            (0u64.wrapping_sub(last), last)
         } else {
             (address, 0u64.wrapping_sub(address))
         };
@@ -554,12 +553,12 @@ fn double(r: &mut Random) -> WriteCase {
         if !ordered {
             continue;
         }
-        let mut change =
+        let mut spoil =
             |change: &Change, at| (change.apply)(&mut list, at, r).filter(|&e| refuses(e));
-        if change(late, j).is_none() {
+        if spoil(late, j).is_none() {
             continue;
         }
-        let Some(expected) = change(early, i) else { continue };
+        let Some(expected) = spoil(early, i) else { continue };
         let name = format!("{} + {}", label(early), label(late));
         return WriteCase { name, list: list.listing(), expected };
     }
