@@ -66,5 +66,5 @@ fn the_bench_images_are_taken() {
     let (code, text) = run(BENCH, &["--against", "self", "--rounds", "3"]);
     assert_eq!(code, Some(0), "{text}");
     assert_eq!(text.matches("| load |").count(), 4, "{text}");
-    assert_eq!(text.matches("globals").count(), 4, "{text}");
+    assert_eq!(text.matches("globals").count(), 5, "{text}");
 }

@@ -66,13 +66,14 @@ fn run(words: &[String]) -> Result<(), String> {
     println!("\nNanoseconds a global of write_table, in the same way.\n");
     println!("| list | first best | first median | second best | second median | best ratio | median ratio |");
     println!("|---|---|---|---|---|---|---|");
-    let mixed = mixed_globals(1_024);
-    let length = loaders[1].written(&mixed).index() as usize;
-    let exact = Listing { buffer_length: length, ..mixed.clone() };
     write_row("1,024 globals of a byte", &short_globals(1_024), loaders, rounds);
-    write_row("1,024 mixed globals", &mixed, loaders, rounds);
-    write_row("1,024 mixed globals, no byte to spare", &exact, loaders, rounds);
-    write_row("65,536 mixed globals", &mixed_globals(65_536), loaders, rounds);
+    for (name, count) in [("1,024", 1_024), ("65,536", 65_536)] {
+        let mixed = mixed_globals(count);
+        let buffer_length = loaders[1].written(&mixed).index() as usize;
+        write_row(&format!("{name} mixed globals"), &mixed, loaders, rounds);
+        let exact = Listing { buffer_length, ..mixed };
+        write_row(&format!("{name} mixed globals, no byte to spare"), &exact, loaders, rounds);
+    }
     Ok(())
 }
 
