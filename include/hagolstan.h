@@ -8,7 +8,8 @@
  * The answer of examine and of the load is one 64-bit number:
  *   taken:    globals * 256
  *   refused:  position * 256 + refusal number (1 to 14)
- * so the low byte of an answer is 0 exactly when the call was taken.
+ * so the low byte of an answer is 0 exactly when the call was taken. The answer of the writer of tables has the
+ * same form, with the table's length for the globals and refusals of its own.
  */
 #ifndef HAGOLSTAN_H
 #define HAGOLSTAN_H
@@ -57,10 +58,31 @@ uint64_t hagolstan_load(const uint8_t *file, size_t file_length, uint64_t bias,
 uint64_t hagolstan_step(const uint8_t *table, size_t table_length, uint64_t position, uint64_t end,
                         uint64_t index, uint8_t *words, size_t words_length);
 
+/* Writes the descriptor table of a list of globals, in shortest form: what a linker puts into a module, and what
+ * hagolstan_step reads.
+ *   addresses   where each global starts in the module, ascending
+ *   sizes       the bytes of each global, in the same order; both lists are counted in numbers, not in bytes
+ *   buffer      lent for the table; 14 bytes a global are always enough
+ * Taken: the answer is the table's length * 256, the table stands at the start of the buffer, and the bytes after it
+ * stay as lent. Refused: the answer is index * 256 + refusal number, and the buffer is byte for byte as lent.
+ *   1   the lists differ in length; index 0
+ * then at each global in turn, with its index:
+ *   2   the size is 0
+ *   3   the size or the address is no multiple of 16
+ *   4   the start is before the end of the global before
+ *   5   the end, the exact sum of address and size, is above 2^48
+ * and after all of them:
+ *   6   the buffer is too small; index 0
+ * The number of globals has no limit here; a module may have 1,024. */
+uint64_t hagolstan_write_table(const uint64_t *addresses, size_t addresses_length,
+                               const uint64_t *sizes, size_t sizes_length,
+                               uint8_t *buffer, size_t buffer_length);
+
 /* An answer taken apart. */
 #define HAGOLSTAN_REFUSAL(answer) ((unsigned)((answer) & 0xff))      /* 0: taken */
 #define HAGOLSTAN_POSITION(answer) ((uint64_t)(answer) >> 8)         /* of a refusal */
 #define HAGOLSTAN_GLOBALS_OF(answer) ((uint64_t)(answer) >> 8)       /* of a call that was taken */
+#define HAGOLSTAN_TABLE_LENGTH(answer) ((uint64_t)(answer) >> 8)     /* of a table that was written */
 
 /* The facts taken apart. */
 #define HAGOLSTAN_MODE(facts) ((unsigned)((facts) >> 2 & 3))         /* 0 absent, 1 synchronous, 2 asynchronous */

@@ -1,12 +1,13 @@
 #!/usr/bin/env python3
-"""Loads real modules and compares answer, memory and tag plane with what readelf says of them.
+"""Loads real modules and compares answer, memory and tag plane with what readelf says of them; reads their descriptor
+tables and writes them again, and compares with the linker's own bytes.
 
-    check.py READELF SCRATCH FOLDER -- LOADER...
+    check.py READELF SCRATCH FOLDER PROGRAMS -- EMULATOR...
 
 READELF is the program to call (GNU or LLVM), SCRATCH a folder for the dumps, FOLDER has the modules that
-tests/modules/build wrote, and LOADER... is the command of programs/load_file.c. What to expect comes from readelf's
-lists of segments, dynamic entries, relocations and symbols, and from the module's bytes; descriptors are decoded
-here, after the Memtag ABI. Nothing of the loader's own code is used.
+tests/modules/build wrote, and PROGRAMS has load_file and write_file, built from programs/, which EMULATOR... runs
+where it is given. What to expect comes from readelf's lists of segments, dynamic entries, relocations and symbols, and
+from the module's bytes; descriptors are decoded here, after the Memtag ABI. Nothing of the loader's own code is used.
 """
 import os
 import re
@@ -78,12 +79,20 @@ class Module:
     def end(self):
         return max(h[2] + h[4] for h in self.loads)
 
+    def offset(self, address):
+        """Where the file has the byte of an address."""
+        return next(h[1] + address - h[2] for h in self.loads if h[2] <= address < h[2] + h[3])
+
+    def table(self):
+        """The bytes of the descriptor table."""
+        start, size = self.tag(GLOBALS), self.tag(GLOBALSSZ)
+        if not size:
+            return b""
+        return self.bytes[self.offset(start):self.offset(start) + size]
+
     def globals(self):
         """(address, bytes) of each descriptor: distance and size in granules, ULEB128, as the ABI's encoder wrote them."""
-        start, size = self.tag(GLOBALS), self.tag(GLOBALSSZ)
-        if start is None:
-            return []
-        table = iter(self.image(self.end())[start:start + size])
+        table = iter(self.table())
         found, last = [], 0
         for byte in table:
             first = uleb(byte, table)
@@ -150,6 +159,35 @@ class Loader:
         expect(examine == (answer if examined is None else examined), f"{what}: examine answers {examine}")
         expect((facts == 0) == (examined is None), f"{what}: facts {facts:#x}")
         expect(memory == b"\xa5" * length and tags == b"\x5a" * plane, f"{what}: memory or plane was written")
+
+
+class Writer:
+    def __init__(self, command):
+        self.command = command
+
+    def write(self, m, room):
+        """The answer to writing a module's table again, the number of globals read, and the buffer of so many bytes."""
+        words = [m.path, str(m.offset(m.tag(GLOBALS))), str(len(m.table())), str(room)]
+        run = subprocess.run(self.command + words, capture_output=True, text=True, timeout=20)
+        expect(run.returncode == 0, f"{m.name}: the writing program ended with {run.returncode}")
+        answer, count, buffer = run.stdout.split()
+        return int(answer), int(count), bytes.fromhex(buffer.strip("-"))
+
+
+def check_table(m, writer):
+    """The table read and written again: the linker's own bytes."""
+    table, count, lent = m.table(), len(m.globals()), b"\xa5"
+    if not table:
+        return
+    for room in (len(table), len(table) + 1, len(table) + 77, 14 * count):
+        what = f"{m.name}, its table into {room} bytes"
+        answer, read, buffer = writer.write(m, room)
+        expect(read == count, f"{what}: {read} globals were read, {count} are there")
+        expect(answer == len(table) * 256, f"{what}: answer {answer & 255} at {answer >> 8}")
+        expect(buffer == table + lent * (room - len(table)), f"{what}: the bytes differ")
+    for room in (len(table) - 1, 0):
+        answer, _, buffer = writer.write(m, room)
+        expect(answer == 6 and buffer == lent * room, f"{m.name}, its table into {room} bytes: answer {answer}")
 
 
 def facts_of(m):
@@ -247,10 +285,9 @@ def check_edits(m, loader, scratch):
     """A good module with one thing spoiled: the refusals that no linker brings about, and the order of the others."""
     header = lambda kind: first(m.headers, lambda h: h[0] == kind)
     entry = lambda tag: first(m.dynamic, lambda d: d[0] == tag)
-    offset = lambda address: next(h[1] + address - h[2] for h in m.loads if h[2] <= address < h[2] + h[3])
     put = lambda at, value, size: m.bytes[:at] + value.to_bytes(size, "little") + m.bytes[at + size:]
     value_of = lambda tag: m.headers[header("DYNAMIC")][1] + 16 * entry(tag) + 8
-    table, rela, count = offset(m.tag(GLOBALS)), offset(m.tag(7)), len(m.globals())
+    table, rela, count = m.offset(m.tag(GLOBALS)), m.offset(m.tag(7)), len(m.globals())
     last = table + m.tag(GLOBALSSZ) - 1
     for what, data, number, position in [
         ("63 bytes", m.bytes[:63], 1, 0),
@@ -312,13 +349,16 @@ def check_nine_hour(m, loader):
 
 
 def main():
-    readelf, scratch, folder, _, *command = sys.argv[1:]
-    loader = Loader(command, scratch)
+    readelf, scratch, folder, programs, _, *emulator = sys.argv[1:]
+    loader = Loader(emulator + [os.path.join(programs, "load_file")], scratch)
+    writer = Writer(emulator + [os.path.join(programs, "write_file")])
     modules = [Module(readelf, os.path.join(at, name)) for at, _, names in sorted(os.walk(folder)) for name in sorted(names) if name.endswith(".so")]
-    seen = set()
+    seen, tables = set(), 0
     for m in modules:
         name = m.name.split("/")[1]
         seen.add(name)
+        tables += bool(m.table())
+        check_table(m, writer)
         if name in REFUSED:
             number, position = REFUSED[name]
             loader.refusal(m.name, m.path, BIASES[0], 0x80000, 0x8000, [], number, position(m))
@@ -331,7 +371,8 @@ def main():
         if name == "nine_hour":
             check_nine_hour(m, loader)
     expect(seen == set(REFUSED) | set(MEANT), f"modules missing: {sorted((set(REFUSED) | set(MEANT)) ^ seen)}")
-    print(f"{len(modules)} modules, {checks} checks")
+    expect(tables > 0, "no module has a table")
+    print(f"{len(modules)} modules, {tables} tables written again, {checks} checks")
 
 
 main()

@@ -1,13 +1,22 @@
 //! Answers in the packed form of the C interface, and what two loaders are compared by.
 
 use crate::rules::{Right, Rules};
-use crate::{examine_by, load_by, step_by, Facts, Mode, Refusal, Step, Switch};
+use crate::{examine_by, load_by, step_by, write_table_by};
+use crate::{Facts, Mode, Refusal, Step, Switch};
 use std::marker::PhantomData;
 
 /// position × 256 + refusal number, or globals × 256.
 pub fn packed(answer: &Result<Facts, Refusal>) -> u64 {
     match answer {
         Ok(facts) => facts.globals * 256,
+        Err(refusal) => refusal.position * 256 + u64::from(refusal.number),
+    }
+}
+
+/// index × 256 + refusal number, or the table's length × 256.
+pub fn packed_length(answer: &Result<usize, Refusal>) -> u64 {
+    match answer {
+        Ok(length) => *length as u64 * 256,
         Err(refusal) => refusal.position * 256 + u64::from(refusal.number),
     }
 }
@@ -71,6 +80,50 @@ impl Outcome {
     }
 }
 
+/// The arguments of one table write; the buffer is filled by a pattern before it.
+#[derive(Clone, Debug, PartialEq, Eq)]
+pub struct Listing {
+    pub addresses: Vec<u64>,
+    pub sizes: Vec<u64>,
+    pub buffer_length: usize,
+}
+
+/// All that a table write gives.
+#[derive(Clone, Debug, PartialEq, Eq)]
+pub struct Written {
+    pub answer: u64,
+    pub buffer: Vec<u8>,
+    /// A byte beside the lent buffer was changed.
+    pub strayed: bool,
+}
+
+impl Written {
+    pub fn number(&self) -> u8 {
+        self.answer as u8
+    }
+
+    pub fn index(&self) -> u64 {
+        self.answer >> 8
+    }
+
+    /// The table of a list that was taken.
+    pub fn table(&self) -> Option<&[u8]> {
+        if self.number() != 0 {
+            return None;
+        }
+        self.buffer.get(..(self.answer >> 8) as usize)
+    }
+
+    /// The buffer from some byte on is still the pattern.
+    pub fn untouched_from(&self, start: usize) -> bool {
+        self.buffer[start..] == buffer_pattern(self.buffer.len())[start..]
+    }
+}
+
+pub fn buffer_pattern(length: usize) -> Vec<u8> {
+    (0..length).map(|i| (i * 13 + 5) as u8).collect()
+}
+
 pub fn memory_pattern(length: usize) -> Vec<u8> {
     (0..length).map(|i| (i * 7 + 3) as u8).collect()
 }
@@ -117,6 +170,7 @@ pub trait Loader {
     ) -> u64;
     /// None where the loader has no call for it.
     fn step(&self, table: &[u8], position: u64, last_end: u64, index: u64) -> Option<StepAnswer>;
+    fn write_table(&self, addresses: &[u64], sizes: &[u64], buffer: &mut [u8]) -> u64;
 
     fn outcome(&self, call: &Call) -> Outcome {
         let mut memory = Lent::new(&memory_pattern(call.memory_length));
@@ -131,6 +185,12 @@ pub trait Loader {
             examine,
             facts,
         }
+    }
+
+    fn written(&self, list: &Listing) -> Written {
+        let mut buffer = Lent::new(&buffer_pattern(list.buffer_length));
+        let answer = self.write_table(&list.addresses, &list.sizes, buffer.bytes());
+        Written { answer, strayed: buffer.strayed(), buffer: buffer.bytes().to_vec() }
     }
 }
 
@@ -173,5 +233,9 @@ impl<R: Rules> Loader for Under<R> {
 
     fn step(&self, table: &[u8], position: u64, last_end: u64, index: u64) -> Option<StepAnswer> {
         Some(step_by::<R>(table, position, last_end, index))
+    }
+
+    fn write_table(&self, addresses: &[u64], sizes: &[u64], buffer: &mut [u8]) -> u64 {
+        packed_length(&write_table_by::<R>(addresses, sizes, buffer))
     }
 }

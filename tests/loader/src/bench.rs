@@ -1,8 +1,9 @@
-//! The images of the benchmark, and the timing of loaders side by side.
+//! The images and lists of the benchmark, and the timing of loaders side by side.
 
-use crate::answers::{Call, Loader};
+use crate::answers::{Call, Listing, Loader};
 use crate::generate::module::uleb;
 use crate::random::Random;
+use crate::writer::ENOUGH;
 use crate::MOST;
 use std::time::{Duration, Instant};
 
@@ -119,6 +120,36 @@ pub(crate) fn call(file: Vec<u8>, globals: usize) -> Call {
     }
 }
 
+/// A list from the granules before each global and of it, with a buffer that takes any table.
+pub(crate) fn listing(globals: impl Iterator<Item = (u64, u64)>) -> Listing {
+    let (mut addresses, mut sizes, mut at) = (Vec::new(), Vec::new(), 0);
+    for (distance, granules) in globals {
+        addresses.push(16 * (at + distance));
+        sizes.push(16 * granules);
+        at += distance + granules;
+    }
+    Listing { buffer_length: ENOUGH * addresses.len(), addresses, sizes }
+}
+
+/// Globals of a byte each.
+pub fn short_globals(count: usize) -> Listing {
+    let mut r = Random::new(count as u64);
+    listing((0..count).map(|_| (r.below(16), r.from(1, 7))))
+}
+
+/// Of eight globals four have one byte, two have two, one has three, and one has two numbers of one or
+/// two bytes, in random order.
+pub fn mixed_globals(count: usize) -> Listing {
+    let mut r = Random::new(count as u64);
+    let global = |_| match r.below(8) {
+        0..=3 => (r.below(16), r.from(1, 7)),
+        4 | 5 => (r.from(16, 2_047), r.from(1, 7)),
+        6 => (r.from(2_048, 100_000), r.from(1, 7)),
+        _ => (r.below(30), r.from(8, 256)),
+    };
+    listing((0..count).map(global))
+}
+
 /// Best and median time.
 pub struct Times {
     pub best: Duration,
@@ -162,6 +193,26 @@ pub fn examines(call: &Call, loaders: [&dyn Loader; 2], rounds: usize) -> [Times
         let answer = loaders[which].examine(&call.file);
         taken[which].push(start.elapsed());
         assert_eq!(answer, call.choices.len() as u64 * 256);
+    }
+    taken.map(times)
+}
+
+/// Table writes by two loaders in turn, each into a cleared buffer.
+pub fn writes(list: &Listing, loaders: [&dyn Loader; 2], rounds: usize) -> [Times; 2] {
+    let mut buffer = vec![0; list.buffer_length];
+    let mut taken = [Vec::new(), Vec::new()];
+    let mut first: Option<(u64, Vec<u8>)> = None;
+    for round in 0..2 * rounds {
+        let which = (round + round / 2) % 2;
+        buffer.fill(0);
+        let start = Instant::now();
+        let answer = loaders[which].write_table(&list.addresses, &list.sizes, &mut buffer);
+        taken[which].push(start.elapsed());
+        assert!(answer.is_multiple_of(256), "refused: {answer}");
+        match &first {
+            Some((a, b)) => assert!(*a == answer && *b == buffer),
+            None => first = Some((answer, buffer.clone())),
+        }
     }
     taken.map(times)
 }

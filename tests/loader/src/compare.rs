@@ -1,9 +1,9 @@
 //! Two loaders side by side on the vectors and on generated cases.
 
-use crate::answers::{Call, Loader, Outcome, RIGHT};
-use crate::faults::FAULTS;
+use crate::answers::{Call, Listing, Loader, Outcome, Written, RIGHT};
+use crate::generate::list::write_case;
 use crate::generate::{case, step_case};
-use crate::{ffi, vectors};
+use crate::{faults, ffi, vectors, Step};
 
 /// The loader to compare with, by name: archive, self, or fault: and a fault's name.
 pub fn partner(name: &str) -> Result<&'static dyn Loader, String> {
@@ -14,8 +14,7 @@ pub fn partner(name: &str) -> Result<&'static dyn Loader, String> {
     if name == "self" {
         return Ok(&RIGHT);
     }
-    let fault = name.strip_prefix("fault:").and_then(|n| FAULTS.iter().find(|f| f.name == n));
-    match fault {
+    match name.strip_prefix("fault:").and_then(faults::named) {
         Some(fault) => Ok(fault.loader),
         None => Err(format!("no loader of the name {name}")),
     }
@@ -34,21 +33,52 @@ pub fn difference(plain: &Outcome, other: &Outcome) -> String {
     if plain.facts != other.facts {
         words.push(format!("facts: plain {:#x}, other {:#x}", plain.facts, other.facts));
     }
-    for (what, a, b) in
-        [("memory", &plain.memory, &other.memory), ("plane", &plain.plane, &other.plane)]
-    {
-        let count = a.iter().zip(b).filter(|(x, y)| x != y).count();
-        if let Some(at) = (0..a.len()).find(|&i| a[i] != b[i]) {
-            let (x, y) = (a[at], b[at]);
-            words.push(format!(
-                "{what}: {count} bytes, first at {at:#x}: plain {x:#04x}, other {y:#04x}"
-            ));
-        }
-    }
+    words.extend(bytes_differ("memory", &plain.memory, &other.memory));
+    words.extend(bytes_differ("plane", &plain.plane, &other.plane));
     if plain.strayed || other.strayed {
         words.push("a byte beside the lent buffers was changed".to_owned());
     }
     words.join("\n  ")
+}
+
+fn bytes_differ(what: &str, a: &[u8], b: &[u8]) -> Option<String> {
+    let count = a.iter().zip(b).filter(|(x, y)| x != y).count();
+    let at = (0..a.len()).find(|&i| a[i] != b[i])?;
+    let (x, y) = (a[at], b[at]);
+    Some(format!("{what}: {count} bytes, first at {at:#x}: plain {x:#04x}, other {y:#04x}"))
+}
+
+/// What differs between two table writes, in words; empty where nothing does.
+pub fn write_difference(plain: &Written, other: &Written) -> String {
+    let mut words = Vec::new();
+    if plain.answer != other.answer {
+        words.push(format!("answer: plain {}, other {}", plain.answer, other.answer));
+    }
+    words.extend(bytes_differ("buffer", &plain.buffer, &other.buffer));
+    if plain.strayed || other.strayed {
+        words.push("a byte beside the lent buffer was changed".to_owned());
+    }
+    words.join("\n  ")
+}
+
+/// Reads a table by a loader's steps: the listed globals one a step, then the end.
+pub fn reads_back(loader: &dyn Loader, table: &[u8], list: &Listing) -> Result<(), String> {
+    let (mut at, mut last_end) = (0, 0);
+    for (i, (&address, &size)) in list.addresses.iter().zip(&list.sizes).enumerate() {
+        match loader.step(table, at, last_end, i as u64) {
+            Some(Ok(Step::Global { start, granules, position, end }))
+                if start == address && granules.checked_mul(16) == Some(size) =>
+            {
+                (at, last_end) = (position, end)
+            }
+            None => return Ok(()),
+            step => return Err(format!("global {i} at {address:#x} of {size:#x} reads {step:x?}")),
+        }
+    }
+    match loader.step(table, at, last_end, list.addresses.len() as u64) {
+        Some(Ok(Step::Finished)) | None => Ok(()),
+        step => Err(format!("after the last global comes {step:x?}")),
+    }
 }
 
 fn shown(answer: u64) -> String {
@@ -94,8 +124,10 @@ pub struct Settings {
 #[derive(Default)]
 pub struct Counts {
     pub answers: [u64; 15],
+    pub write_answers: [u64; 7],
     pub calls: u64,
     pub steps: u64,
+    pub writes: u64,
     pub different: usize,
 }
 
@@ -135,6 +167,28 @@ impl Run<'_> {
         }
     }
 
+    /// A table write by both; what is taken is read back by both.
+    fn write(&mut self, name: &str, list: &Listing) {
+        let (plain, other) = (RIGHT.written(list), self.other.written(list));
+        self.counts.write_answers[usize::from(plain.number())] += 1;
+        self.counts.writes += 1;
+        let mut words = write_difference(&plain, &other);
+        if let (true, Some(table)) = (words.is_empty(), plain.table()) {
+            let read = reads_back(&RIGHT, table, list).and(reads_back(self.other, table, list));
+            words = read.err().unwrap_or_default();
+        }
+        if words.is_empty() {
+            return;
+        }
+        self.counts.different += 1;
+        println!("different: {name}\n  {words}");
+        let (addresses, sizes) = (&list.addresses, &list.sizes);
+        println!("  {} addresses, {} sizes", addresses.len(), sizes.len());
+        if addresses.len().max(sizes.len()) <= 40 {
+            println!("  write_table({addresses:x?}, {sizes:x?}, {} bytes)", list.buffer_length);
+        }
+    }
+
     fn full(&self) -> bool {
         self.counts.different >= self.settings.stop
     }
@@ -154,6 +208,11 @@ pub fn run(settings: &Settings) -> Result<Counts, String> {
             run.step(&format!("descriptor vector {i}"), &v.table, v.position, v.last_end, v.index);
         }
     }
+    for (i, v) in vectors::writes().iter().enumerate() {
+        if !run.full() {
+            run.write(&format!("write vector {i}, {}", v.name), &v.list);
+        }
+    }
     for number in settings.first..settings.first + settings.cases {
         if run.full() {
             break;
@@ -163,6 +222,8 @@ pub fn run(settings: &Settings) -> Result<Counts, String> {
         let s = step_case(settings.seed, number);
         let name = format!("step {number} of seed {:#x}", settings.seed);
         run.step(&name, &s.table, s.position, s.last_end, s.index);
+        let w = write_case(settings.seed, number);
+        run.write(&format!("list {number} of seed {:#x}, {}", settings.seed, w.name), &w.list);
     }
     Ok(run.counts)
 }

@@ -1,10 +1,10 @@
-//! Instructions of a call by item: the images to count on, the rows of the table, and what callgrind
-//! wrote for each call.
+//! Instructions of a call by item: the images and lists to count on, the rows of the table, and what
+//! callgrind wrote for each call.
 //!
 //! A row is a sum of counts over calls that differ in one thing alone, so all else cancels.
 
-use crate::answers::{Call, Loader};
-use crate::bench::{assemble, call, Tables};
+use crate::answers::{Call, Listing, Loader};
+use crate::bench::{assemble, call, listing, Tables};
 use crate::generate::module::uleb;
 
 const SIZE: usize = 256 << 10;
@@ -18,7 +18,7 @@ const STEP: usize = 80;
 
 #[derive(Clone, Copy, PartialEq, Eq)]
 enum Form {
-    /// One number in so many bytes, padded.
+    /// One number in so many bytes; padded in an image, needed in a list.
     Bytes(usize),
     /// The size in a second number; a byte each.
     TwoNumbers,
@@ -68,10 +68,22 @@ fn image(shape: Shape) -> Call {
     call(file, shape.globals)
 }
 
+/// The list of as many globals of the shape's form; an image has nothing more for it.
+fn list(shape: Shape) -> Listing {
+    let global = match shape.form {
+        Form::Bytes(bytes) => (2 << (7 * (bytes - 1)), 3),
+        Form::TwoNumbers => (2, 9),
+    };
+    listing(std::iter::repeat_n(global, shape.globals))
+}
+
 #[derive(Clone, Copy, PartialEq, Eq)]
 enum What {
     Examine,
     Load,
+    /// A table write with a buffer that takes any table, or of the table's length.
+    Write,
+    WriteExact,
 }
 
 /// A sum of counts, by the number of items that it is the count of.
@@ -105,7 +117,7 @@ const MANY: usize = 768;
 const PASSED: usize = 8;
 
 fn rows() -> Vec<Row> {
-    use What::Examine;
+    use What::{Examine, Write, WriteExact};
     let mut rows = Vec::new();
     let mut row = |name: &str, items: usize, terms: Terms| {
         rows.push(Row { name: name.to_owned(), terms, items: items as i64 });
@@ -123,6 +135,13 @@ fn rows() -> Vec<Row> {
     }
     let [small, large] = globals(Form::Bytes(1));
     row("a descriptor of one byte: the load beyond examine", MANY - FEW, beyond(small, large));
+
+    for (name, form) in forms {
+        let [small, large] = globals(form);
+        row(&format!("{name}: written"), MANY - FEW, more(Write, small, large));
+    }
+    let name = "a descriptor of one byte: written, no byte to spare";
+    row(name, MANY - FEW, more(WriteExact, small, large));
 
     // The globals that the relocations point into are there whatever the number of relocations.
     let tables = |symbols, from, to| {
@@ -154,21 +173,49 @@ fn rows() -> Vec<Row> {
     rows
 }
 
+/// A call with all its arguments.
+pub enum Counted<'a> {
+    Examine(&'a Call),
+    Load(&'a Call, &'a mut [u8], &'a mut [u8]),
+    Write(&'a Listing, &'a mut [u8]),
+}
+
 /// The function that callgrind counts; it writes a profile each time it is left.
 #[no_mangle]
 #[inline(never)]
-pub fn hagolstan_counted_call(
-    loader: &dyn Loader,
-    whole: bool,
-    call: &Call,
-    memory: &mut [u8],
-    plane: &mut [u8],
-) -> u64 {
-    if whole {
-        loader.load(&call.file, call.bias, memory, plane, &call.choices)
-    } else {
-        loader.examine(&call.file)
+pub fn hagolstan_counted_call(loader: &dyn Loader, counted: Counted) -> u64 {
+    match counted {
+        Counted::Examine(call) => loader.examine(&call.file),
+        Counted::Load(call, memory, plane) => {
+            loader.load(&call.file, call.bias, memory, plane, &call.choices)
+        }
+        Counted::Write(list, buffer) => loader.write_table(&list.addresses, &list.sizes, buffer),
     }
+}
+
+/// The buffers that a call of an image leaves.
+fn left_by(loader: &dyn Loader, whole: bool, shape: Shape) -> [Vec<u8>; 2] {
+    let call = image(shape);
+    let mut memory = vec![0xa5; call.memory_length];
+    let mut plane = vec![0x5a; call.plane_length];
+    let counted =
+        if whole { Counted::Load(&call, &mut memory, &mut plane) } else { Counted::Examine(&call) };
+    assert_eq!(hagolstan_counted_call(loader, counted), shape.globals as u64 * 256);
+    [memory, plane]
+}
+
+/// The buffer that a table write leaves.
+fn written_by(loader: &dyn Loader, exact: bool, shape: Shape) -> Vec<u8> {
+    let list = list(shape);
+    let bytes = match shape.form {
+        Form::Bytes(bytes) => bytes,
+        Form::TwoNumbers => 2,
+    };
+    let length = shape.globals * bytes;
+    let mut buffer = vec![0xa5; if exact { length } else { list.buffer_length }];
+    let answer = hagolstan_counted_call(loader, Counted::Write(&list, &mut buffer));
+    assert_eq!(answer, length as u64 * 256);
+    buffer
 }
 
 /// Makes every call of the table by both loaders in turn; the number of calls. Panics where an
@@ -176,14 +223,9 @@ pub fn hagolstan_counted_call(
 pub fn calls(loaders: [&dyn Loader; 2]) -> usize {
     let terms: Terms = rows().into_iter().flat_map(|row| row.terms).collect();
     for &(_, what, shape) in &terms {
-        let call = image(shape);
-        let left = loaders.map(|loader| {
-            let mut memory = vec![0xa5; call.memory_length];
-            let mut plane = vec![0x5a; call.plane_length];
-            let whole = what == What::Load;
-            let answer = hagolstan_counted_call(loader, whole, &call, &mut memory, &mut plane);
-            assert_eq!(answer, shape.globals as u64 * 256);
-            (memory, plane)
+        let left = loaders.map(|loader| match what {
+            What::Examine | What::Load => left_by(loader, what == What::Load, shape).concat(),
+            What::Write | What::WriteExact => written_by(loader, what == What::WriteExact, shape),
         });
         assert!(left[0] == left[1], "the loaders leave different bytes");
     }

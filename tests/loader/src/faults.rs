@@ -1,5 +1,5 @@
-//! Wrong variants of the Rust loader: each breaks one rule. The generated cases must tell each
-//! of them from the right one.
+//! Wrong variants of the Rust loader and writer: each breaks one rule. The generated cases must tell
+//! each of them from the right one.
 
 use crate::answers::{Loader, Under};
 use crate::headers::Segment;
@@ -11,19 +11,26 @@ pub struct Fault {
     pub loader: &'static (dyn Loader + Sync),
 }
 
+/// The fault of a name, among all of them.
+pub fn named(name: &str) -> Option<&'static Fault> {
+    FAULTS.iter().chain(WRITER_FAULTS).find(|fault| fault.name == name)
+}
+
 /// Defines each fault as the rules with the given items put in, and lists them all.
 macro_rules! faults {
-    ($($kind:ident $name:literal { $($item:item)* })*) => {
+    ($list:ident: $($kind:ident $name:literal { $($item:item)* })*) => {
         $(
             pub struct $kind;
             impl Rules for $kind { $($item)* }
         )*
-        pub const FAULTS: &[Fault] =
+        pub const $list: &[Fault] =
             &[$(Fault { name: $name, loader: &Under::<$kind>::new() }),*];
     };
 }
 
+// Loads tell these apart.
 faults! {
+    FAULTS:
     ForgetsPlace "the tag source forgets *P" {
         fn relative_source(bias: u64, addend: i64, _: u64) -> Option<u128> {
             Some(bias.wrapping_add_signed(addend).into())
@@ -327,5 +334,210 @@ faults! {
     }
     PlaneKept "other granules are not cleared" {
         const CLEARS_PLANE: bool = false;
+    }
+}
+
+// Table writes tell these apart.
+faults! {
+    WRITER_FAULTS:
+    MoreAddresses "addresses without a size are passed over" {
+        fn unequal(addresses: usize, sizes: usize) -> bool {
+            addresses < sizes
+        }
+    }
+    MoreSizes "sizes without an address are passed over" {
+        fn unequal(addresses: usize, sizes: usize) -> bool {
+            addresses > sizes
+        }
+    }
+    UnequalNamed "unequal lists name the shorter length" {
+        fn unequal_at(addresses: usize, sizes: usize) -> u64 {
+            addresses.min(sizes) as u64
+        }
+    }
+    LengthsLast "the lengths are compared after the globals" {
+        const LENGTHS_LAST: bool = true;
+    }
+    SizeZero "a size of 0 is written" {
+        fn has_size(_: u64) -> bool {
+            true
+        }
+    }
+    SizeAny "only addresses must be multiples of 16" {
+        fn in_granules(address: u64, _: u64) -> bool {
+            address.is_multiple_of(16)
+        }
+    }
+    AddressAny "only sizes must be multiples of 16" {
+        fn in_granules(_: u64, size: u64) -> bool {
+            size.is_multiple_of(16)
+        }
+    }
+    EndInGranules "only ends must be multiples of 16" {
+        fn in_granules(address: u64, size: u64) -> bool {
+            address.wrapping_add(size).is_multiple_of(16)
+        }
+    }
+    Eights "multiples of 8 are taken" {
+        fn in_granules(address: u64, size: u64) -> bool {
+            (address | size).is_multiple_of(8)
+        }
+    }
+    BehindStart "a start may be a granule before the last end" {
+        fn starts_behind(address: u64, last_end: u64) -> bool {
+            address.saturating_add(16) >= last_end
+        }
+    }
+    AnyOrder "starts in any order" {
+        fn starts_behind(_: u64, _: u64) -> bool {
+            true
+        }
+    }
+    ListedApart "listed globals may not abut" {
+        fn starts_behind(address: u64, last_end: u64) -> bool {
+            last_end == 0 || address > last_end
+        }
+    }
+    NotAtZero "no global at address 0" {
+        fn starts_behind(address: u64, last_end: u64) -> bool {
+            address != 0 && address >= last_end
+        }
+    }
+    EndBelow "an end of 2^48 is refused" {
+        fn ends_inside(address: u64, size: u64) -> bool {
+            address.checked_add(size).is_some_and(|end| end < ADDRESS_END)
+        }
+    }
+    EndOver "an end a granule above 2^48 is taken" {
+        fn ends_inside(address: u64, size: u64) -> bool {
+            address.checked_add(size).is_some_and(|end| end <= ADDRESS_END + 16)
+        }
+    }
+    EndWraps "an end wraps at 2^64" {
+        fn ends_inside(address: u64, size: u64) -> bool {
+            address.wrapping_add(size) <= ADDRESS_END
+        }
+    }
+    EndAtZero "an end of 2^64 counts as 0" {
+        fn ends_inside(address: u64, size: u64) -> bool {
+            let end = u128::from(address) + u128::from(size);
+            end <= ADDRESS_END.into() || end == 1 << 64
+        }
+    }
+    StartInside "only the start must be below 2^48" {
+        fn ends_inside(address: u64, _: u64) -> bool {
+            address < ADDRESS_END
+        }
+    }
+    GranulesFirst "3 before 2" {
+        fn first_broken(address: u64, size: u64, last_end: u64) -> u8 {
+            if !Self::in_granules(address, size) {
+                3
+            } else if !Self::has_size(size) {
+                2
+            } else if !Self::starts_behind(address, last_end) {
+                4
+            } else {
+                5
+            }
+        }
+    }
+    OrderFirst "4 before 2 and 3" {
+        fn first_broken(address: u64, size: u64, last_end: u64) -> u8 {
+            if !Self::starts_behind(address, last_end) {
+                4
+            } else if !Self::has_size(size) {
+                2
+            } else if !Self::in_granules(address, size) {
+                3
+            } else {
+                5
+            }
+        }
+    }
+    EndsBeforeOrder "5 before 4" {
+        fn first_broken(address: u64, size: u64, _: u64) -> u8 {
+            if !Self::has_size(size) {
+                2
+            } else if !Self::in_granules(address, size) {
+                3
+            } else if !Self::ends_inside(address, size) {
+                5
+            } else {
+                4
+            }
+        }
+    }
+    EndsFirst "5 before 2 and 3" {
+        fn first_broken(address: u64, size: u64, _: u64) -> u8 {
+            if !Self::ends_inside(address, size) {
+                5
+            } else if !Self::has_size(size) {
+                2
+            } else if !Self::in_granules(address, size) {
+                3
+            } else {
+                4
+            }
+        }
+    }
+    RuleByRule "each rule over the whole list before the next" {
+        const RULE_BY_RULE: bool = true;
+    }
+    RoomFirst "6 before 2 to 5 where no table can fit" {
+        const ROOM_FIRST: bool = true;
+    }
+    RoomShort "a buffer one byte too small is taken" {
+        fn room(table: usize, buffer: usize) -> bool {
+            table <= buffer + 1
+        }
+    }
+    RoomOver "a buffer of the table's length is refused" {
+        fn room(table: usize, buffer: usize) -> bool {
+            table < buffer
+        }
+    }
+    RoomNamed "6 names the number of globals" {
+        fn no_room_at(globals: usize) -> u64 {
+            globals as u64
+        }
+    }
+    ShortSeven "a second number from 7 granules on" {
+        const SHORT_SIZES: u64 = 7;
+    }
+    ShortNine "a second number from 9 granules on" {
+        const SHORT_SIZES: u64 = 9;
+    }
+    SecondSize "the size as second number" {
+        fn second_number(granules: u64) -> u64 {
+            granules
+        }
+    }
+    FromStart "distances from the last start" {
+        fn starts_behind(_: u64, _: u64) -> bool {
+            true
+        }
+        fn next_end(address: u64, _: u64) -> u64 {
+            address
+        }
+    }
+    FromZero "distances from address 0" {
+        fn distance_from(address: u64, _: u64) -> u64 {
+            address
+        }
+    }
+    ShortDistance "distances of 32 bits" {
+        fn distance_from(address: u64, last_end: u64) -> u64 {
+            address.wrapping_sub(last_end) as u32 as u64
+        }
+    }
+    WritesAsItChecks "the globals before a refused one are written" {
+        const WRITES_AS_IT_CHECKS: bool = true;
+    }
+    WritesWhatFits "a buffer too small is filled" {
+        const WRITES_WHAT_FITS: bool = true;
+    }
+    ClearsRest "the bytes after the table are cleared" {
+        const CLEARS_REST: bool = true;
     }
 }

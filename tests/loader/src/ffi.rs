@@ -32,6 +32,14 @@ mod archive {
             words: *mut u8,
             words_length: usize,
         ) -> u64;
+        fn hagolstan_write_table(
+            addresses: *const u64,
+            addresses_length: usize,
+            sizes: *const u64,
+            sizes_length: usize,
+            buffer: *mut u8,
+            buffer_length: usize,
+        ) -> u64;
     }
 
     pub struct Proved;
@@ -96,6 +104,20 @@ mod archive {
                 }),
                 number => Err(Refusal { number: number as _, position: word(0) }),
             })
+        }
+
+        fn write_table(&self, addresses: &[u64], sizes: &[u64], buffer: &mut [u8]) -> u64 {
+            // SAFETY: the slices are distinct, and the call stays inside their lengths.
+            unsafe {
+                hagolstan_write_table(
+                    addresses.as_ptr(),
+                    addresses.len(),
+                    sizes.as_ptr(),
+                    sizes.len(),
+                    buffer.as_mut_ptr(),
+                    buffer.len(),
+                )
+            }
         }
     }
 }

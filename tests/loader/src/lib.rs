@@ -1,4 +1,5 @@
-//! A plain loader written from document 01 alone, to be compared with the proved one.
+//! A plain loader and a plain writer of descriptor tables, written from the documents alone, to be
+//! compared with the proved ones.
 
 pub mod answers;
 pub mod bench;
@@ -17,9 +18,11 @@ pub mod random;
 mod relocations;
 pub mod rules;
 pub mod vectors;
+pub mod writer;
 
 pub use descriptors::{step_by, Step};
 pub use load::{examine_by, load_by};
+pub use writer::write_table_by;
 
 use rules::Right;
 
@@ -85,4 +88,10 @@ pub fn load(
 /// Reads one descriptor.
 pub fn step(table: &[u8], position: u64, last_end: u64, index: u64) -> Result<Step, Refusal> {
     step_by::<Right>(table, position, last_end, index)
+}
+
+/// Writes the descriptor table of a list of globals, in shortest form; its length. A refusal leaves
+/// the buffer as it was, and bytes after the table stay.
+pub fn write_table(addresses: &[u64], sizes: &[u64], buffer: &mut [u8]) -> Result<usize, Refusal> {
+    write_table_by::<Right>(addresses, sizes, buffer)
 }

@@ -1,8 +1,8 @@
-//! The single rules of document 01 that the seeded faults change. The defaults are the right
-//! ones; a fault overrides one of them.
+//! The single rules of the loader and of the writer that the seeded faults change. The defaults are
+//! the right ones; a fault overrides one of them.
 
 use crate::headers::Segment;
-use crate::{ADDRESS_END, LARGEST, MOST};
+use crate::{ADDRESS_END, GRANULE, LARGEST, MOST};
 
 pub trait Rules {
     /// 1: lengths that a file may have.
@@ -179,9 +179,97 @@ pub trait Rules {
 
     /// Symbols are read from the file.
     const SYMBOLS_FROM_MEMORY: bool = false;
+
+    // The writer of tables.
+
+    /// 1: the lists differ in length.
+    fn unequal(addresses: usize, sizes: usize) -> bool {
+        addresses != sizes
+    }
+
+    /// 1: its index.
+    fn unequal_at(_addresses: usize, _sizes: usize) -> u64 {
+        0
+    }
+
+    /// 1 comes before 2 to 5.
+    const LENGTHS_LAST: bool = false;
+
+    /// 2: a global has a size.
+    fn has_size(size: u64) -> bool {
+        size != 0
+    }
+
+    /// 3: address and size are multiples of 16.
+    fn in_granules(address: u64, size: u64) -> bool {
+        (address | size).is_multiple_of(GRANULE)
+    }
+
+    /// 4: a start at or after the last one's end, which is 0 before the first.
+    fn starts_behind(address: u64, last_end: u64) -> bool {
+        address >= last_end
+    }
+
+    /// 5: an end, which is exact, of at most 2^48.
+    fn ends_inside(address: u64, size: u64) -> bool {
+        address.checked_add(size).is_some_and(|end| end <= ADDRESS_END)
+    }
+
+    /// 2 to 5 in this order at a global that breaks one of them.
+    fn first_broken(address: u64, size: u64, last_end: u64) -> u8 {
+        if !Self::has_size(size) {
+            2
+        } else if !Self::in_granules(address, size) {
+            3
+        } else if !Self::starts_behind(address, last_end) {
+            4
+        } else {
+            5
+        }
+    }
+
+    /// 2 to 5 come from one walk.
+    const RULE_BY_RULE: bool = false;
+
+    /// 6 comes after 2 to 5.
+    const ROOM_FIRST: bool = false;
+
+    /// 6: the table fits into the buffer.
+    fn room(table: usize, buffer: usize) -> bool {
+        table <= buffer
+    }
+
+    /// 6: its index.
+    fn no_room_at(_globals: usize) -> u64 {
+        0
+    }
+
+    /// Sizes below it, in granules, go into the first number.
+    const SHORT_SIZES: u64 = 8;
+
+    /// The second number, from the size in granules.
+    fn second_number(granules: u64) -> u64 {
+        granules - 1
+    }
+
+    /// Bytes from the last global's end to a start.
+    fn distance_from(address: u64, last_end: u64) -> u64 {
+        address.wrapping_sub(last_end)
+    }
+
+    /// What the next distance is measured from.
+    fn next_end(address: u64, size: u64) -> u64 {
+        address.wrapping_add(size)
+    }
+
+    /// A refusal writes nothing.
+    const WRITES_AS_IT_CHECKS: bool = false;
+    const WRITES_WHAT_FITS: bool = false;
+    /// Bytes after the table stay.
+    const CLEARS_REST: bool = false;
 }
 
-/// Document 01 as it stands.
+/// The rules as they stand.
 pub struct Right;
 
 impl Rules for Right {}

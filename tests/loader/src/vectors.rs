@@ -1,7 +1,8 @@
 //! The outside vectors in tests/vectors.
 
-use crate::answers::{Call, Outcome, StepAnswer};
+use crate::answers::{Call, Listing, Outcome, StepAnswer, Written};
 use crate::bytes::{u32_at, u64_at};
+use crate::compare::hex;
 use crate::crc::crc32;
 use crate::{Facts, Mode, Refusal, Step, Switch};
 use std::path::PathBuf;
@@ -17,6 +18,12 @@ pub struct StepVector {
     pub position: u64,
     pub last_end: u64,
     pub index: u64,
+    pub answer: String,
+}
+
+pub struct WriteVector {
+    pub name: String,
+    pub list: Listing,
     pub answer: String,
 }
 
@@ -49,6 +56,11 @@ impl<'a> Records<'a> {
     fn counted(&mut self) -> Vec<u8> {
         let count = self.u32();
         self.bytes(count).to_vec()
+    }
+
+    fn words(&mut self) -> Vec<u64> {
+        let count = self.u32();
+        (0..count).map(|_| self.u64()).collect()
     }
 }
 
@@ -84,6 +96,24 @@ pub fn steps() -> Vec<StepVector> {
             last_end: records.u64(),
             index: records.u64(),
             answer,
+        })
+        .collect();
+    assert!(records.0.is_empty());
+    vectors
+}
+
+pub fn writes() -> Vec<WriteVector> {
+    let bytes = read("write.cases");
+    let mut records = Records(&bytes);
+    let named = lines("write.names").into_iter().zip(lines("write.answers"));
+    let vectors = named
+        .map(|(name, answer)| {
+            let list = Listing {
+                addresses: records.words(),
+                sizes: records.words(),
+                buffer_length: records.u32(),
+            };
+            WriteVector { name, list, answer }
         })
         .collect();
     assert!(records.0.is_empty());
@@ -126,4 +156,14 @@ pub fn step_line(answer: &StepAnswer) -> String {
         }
         Err(r) => format!("refused {} {}", r.number, r.position),
     }
+}
+
+/// The line of write.answers for a table write.
+pub fn write_line(written: &Written) -> String {
+    let buffer = match &written.buffer[..] {
+        [] => "-".to_owned(),
+        short if short.len() <= 64 => hex(short),
+        long => format!("#{:08x}", crc32(long)),
+    };
+    format!("{} {buffer}", written.answer)
 }

@@ -1,7 +1,7 @@
-//! The bench sheet of document 01.
+//! The bench sheet of document 01, and its table written.
 
 use loader::answers::{packed_facts, Call};
-use loader::{examine, load, step, Facts, Mode, Refusal, Step, Switch};
+use loader::{examine, load, step, write_table, Facts, Mode, Refusal, Step, Switch};
 
 const BIAS: u64 = 0x4000_0000;
 const TABLE: [u8; 5] = [0x82, 0x10, 0x10, 0x07, 0x01];
@@ -77,6 +77,37 @@ fn descriptors() {
     assert_eq!(globals(&number(1)), refused(9, 0));
     assert_eq!(examine(&module(&number(2), &[], 0)), refused(8, 0));
     assert_eq!(examine(&module(&number(1), &[], 0)), refused(9, 0));
+}
+
+/// The table of a list of (address, bytes), in a buffer of so many bytes.
+fn written(list: &[(u64, u64)], room: usize) -> Result<Vec<u8>, Refusal> {
+    let (addresses, sizes): (Vec<u64>, Vec<u64>) = list.iter().copied().unzip();
+    let mut buffer = vec![0xee; room];
+    let length = write_table(&addresses, &sizes, &mut buffer)?;
+    assert!(buffer[length..].iter().all(|&b| b == 0xee));
+    buffer.truncate(length);
+    Ok(buffer)
+}
+
+#[test]
+fn tables() {
+    let list = [(0x1000, 0x20), (0x1040, 0x80), (0x10c0, 0x10)];
+    assert_eq!(written(&list, 40), Ok(TABLE.to_vec()));
+    assert_eq!(written(&list, 5), Ok(TABLE.to_vec()));
+    assert_eq!(written(&list, 4), refused(6, 0));
+    // The example of the Memtag ABI.
+    assert_eq!(written(&[(0x100, 0x20), (0x120, 0x20)], 28), Ok(vec![0x82, 1, 2]));
+    assert_eq!(written(&[], 0), Ok(Vec::new()));
+    assert_eq!(written(&[(0, 0x70)], 1), Ok(vec![7]));
+    assert_eq!(written(&[(0, 0x80)], 2), Ok(vec![0, 7]));
+    assert_eq!(written(&[(0, 0)], 14), refused(2, 0));
+    assert_eq!(written(&[(0, 0x10), (0x18, 0x10)], 14), refused(3, 1));
+    assert_eq!(written(&[(0, 0x20), (0x10, 0x10)], 14), refused(4, 1));
+    assert_eq!(written(&[(0, 1 << 48)], 14).map(|table| table.len()), Ok(8));
+    assert_eq!(written(&[(0x10, 1 << 48)], 14), refused(5, 0));
+    assert_eq!(written(&[(0u64.wrapping_sub(16), 0x10)], 14), refused(5, 0));
+    // Fourteen bytes are the most of a global.
+    assert_eq!(written(&[(1 << 43, (1 << 46) + 16)], 14).map(|table| table.len()), Ok(14));
 }
 
 #[test]

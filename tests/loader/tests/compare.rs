@@ -15,7 +15,7 @@ fn run(program: &str, words: &[&str]) -> (Option<i32>, String) {
 fn equal_loaders_are_equal() {
     let (code, text) = run(COMPARE, &["--against", "self", "--cases", "2000"]);
     assert_eq!(code, Some(0), "{text}");
-    assert!(text.contains("2700 calls, 2400 descriptor steps"), "{text}");
+    assert!(text.contains("2700 calls, 2400 descriptor steps, 2346 table writes"), "{text}");
     assert!(text.contains("different: 0"), "{text}");
 }
 
@@ -44,6 +44,17 @@ fn a_difference_is_shown_and_replayed() {
 }
 
 #[test]
+fn a_different_table_is_shown() {
+    let against = "fault:the size as second number";
+    let words = ["--against", against, "--cases", "0", "--stop", "1"];
+    let (code, text) = run(COMPARE, &words);
+    assert_eq!(code, Some(1), "{text}");
+    assert!(text.contains("different: write vector 0, bench_list_in_5_bytes"), "{text}");
+    assert!(text.contains("buffer: 1 bytes, first at 0x3: plain 0x07, other 0x08"), "{text}");
+    assert!(text.contains("write_table([1000, 1040, 10c0], [20, 80, 10], 5 bytes)"), "{text}");
+}
+
+#[test]
 fn wrong_words_are_told() {
     assert_eq!(run(COMPARE, &["--against", "nothing"]).0, Some(2));
     assert_eq!(run(COMPARE, &["replay", "no such file"]).0, Some(2));
@@ -55,4 +66,5 @@ fn the_bench_images_are_taken() {
     let (code, text) = run(BENCH, &["--against", "self", "--rounds", "3"]);
     assert_eq!(code, Some(0), "{text}");
     assert_eq!(text.matches("| load |").count(), 4, "{text}");
+    assert_eq!(text.matches("globals").count(), 5, "{text}");
 }

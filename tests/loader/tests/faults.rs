@@ -1,36 +1,64 @@
 //! The generated cases tell every seeded fault from the right loader.
 
-use loader::answers::{Loader, Outcome, RIGHT};
-use loader::faults::FAULTS;
+use loader::answers::{Loader, RIGHT};
+use loader::faults::{Fault, FAULTS, WRITER_FAULTS};
+use loader::generate::list::write_case;
 use loader::generate::{cases, count, step_case, SEED};
 use std::panic::{catch_unwind, AssertUnwindSafe};
 
-#[test]
-fn each_is_caught() {
-    let total = count(10_000);
-    let mut caught = vec![(0u64, 0u64, None); FAULTS.len()];
-    std::panic::set_hook(Box::new(|_| {}));
-    for (i, case) in cases(SEED, total).enumerate() {
-        let right: Outcome = RIGHT.outcome(&case.call);
-        for (fault, (times, stops, first)) in FAULTS.iter().zip(&mut caught) {
+/// Counts by fault, in a table with the first case that tells it from the right one.
+struct Caught {
+    faults: &'static [Fault],
+    counts: Vec<(u64, u64, Option<String>)>,
+}
+
+impl Caught {
+    fn new(faults: &'static [Fault]) -> Caught {
+        Caught { faults, counts: vec![(0, 0, None); faults.len()] }
+    }
+
+    /// What each wrong loader does, beside what the right one did.
+    fn case<T: PartialEq>(&mut self, name: &str, right: T, by: impl Fn(&dyn Loader) -> T) {
+        for (fault, (times, stops, first)) in self.faults.iter().zip(&mut self.counts) {
             // A wrong loader that stops is told apart as well, but counted on its own.
-            match catch_unwind(AssertUnwindSafe(|| fault.loader.outcome(&case.call))) {
+            match catch_unwind(AssertUnwindSafe(|| by(fault.loader))) {
                 Ok(wrong) if wrong == right => continue,
                 Ok(_) => *times += 1,
                 Err(_) => *stops += 1,
             }
-            first.get_or_insert(format!("case {i}, {}", case.name));
+            first.get_or_insert(name.to_owned());
         }
     }
+
+    fn each(&self, total: u64) {
+        println!("differs  stops");
+        for (fault, (times, stops, first)) in self.faults.iter().zip(&self.counts) {
+            println!("{times:7} {stops:6}  {:45} {}", fault.name, first.as_deref().unwrap_or("-"));
+        }
+        println!("{} faults, {total} cases", self.faults.len());
+        for (fault, (times, stops, _)) in self.faults.iter().zip(&self.counts) {
+            assert!(times + stops > 0, "not caught: {}", fault.name);
+        }
+    }
+}
+
+#[test]
+fn each_is_caught() {
+    let total = count(10_000);
+    let (mut loads, mut writes) = (Caught::new(FAULTS), Caught::new(WRITER_FAULTS));
+    std::panic::set_hook(Box::new(|_| {}));
+    for (i, case) in cases(SEED, total).enumerate() {
+        let name = format!("case {i}, {}", case.name);
+        loads.case(&name, RIGHT.outcome(&case.call), |loader| loader.outcome(&case.call));
+    }
+    for i in 0..total {
+        let case = write_case(SEED, i);
+        let name = format!("list {i}, {}", case.name);
+        writes.case(&name, RIGHT.written(&case.list), |loader| loader.written(&case.list));
+    }
     let _ = std::panic::take_hook();
-    println!("differs  stops");
-    for (fault, (times, stops, first)) in FAULTS.iter().zip(&caught) {
-        println!("{times:7} {stops:6}  {:45} {}", fault.name, first.as_deref().unwrap_or("-"));
-    }
-    println!("{} faults, {total} cases", FAULTS.len());
-    for (fault, (times, stops, _)) in FAULTS.iter().zip(&caught) {
-        assert!(times + stops > 0, "not caught: {}", fault.name);
-    }
+    loads.each(total);
+    writes.each(total);
 }
 
 #[test]

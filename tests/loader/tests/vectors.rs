@@ -22,3 +22,14 @@ fn steps() {
         assert_eq!(line, v.answer, "case {i}");
     }
 }
+
+#[test]
+fn writes() {
+    let vectors = vectors::writes();
+    assert_eq!(vectors.len(), 346);
+    for (i, v) in vectors.iter().enumerate() {
+        let written = RIGHT.written(&v.list);
+        assert_eq!(vectors::write_line(&written), v.answer, "case {i}, {}", v.name);
+        assert!(!written.strayed, "case {i}, {}", v.name);
+    }
+}

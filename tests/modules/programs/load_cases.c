@@ -3,36 +3,14 @@
 #define _DEFAULT_SOURCE
 #include <stdio.h>
 #include <stdlib.h>
+#include "cases.h"
 #include "guard.h"
 #include "hagolstan.h"
-
-static int get(uint64_t *value, int bytes)
-{
-    *value = 0;
-    for (int i = 0; i < bytes; i++) {
-        int c = getchar();
-        if (c == EOF)
-            return 0;
-        *value |= (uint64_t)c << (8 * i);
-    }
-    return 1;
-}
 
 /* Reads a length and as many bytes, which end at end. */
 static int get_bytes(uint8_t *end, uint64_t *length)
 {
     return get(length, 4) && *length <= ROOM && fread(end - *length, 1, *length, stdin) == *length;
-}
-
-static uint32_t crc(const uint8_t *bytes, size_t length)
-{
-    uint32_t c = 0xffffffff;
-    for (size_t i = 0; i < length; i++) {
-        c ^= bytes[i];
-        for (int bit = 0; bit < 8; bit++)
-            c = c >> 1 ^ (c & 1 ? 0xedb88320 : 0);
-    }
-    return ~c;
 }
 
 int main(void)

@@ -1,8 +1,10 @@
-//! Times the proved loader beside the Rust one; prints a markdown table.
+//! Times the proved loader and writer beside the Rust ones; prints two markdown tables.
 //!
 //!     bench [--against archive] [--rounds N]
 
+use loader::answers::{Listing, Loader};
 use loader::bench::{bare, examines, image, loads, Times, SIZES};
+use loader::bench::{mixed_globals, short_globals, writes};
 use loader::compare::partner;
 use std::process::ExitCode;
 
@@ -16,6 +18,20 @@ fn row(image: &str, call: &str, [proved, plain]: [Times; 2]) {
         micro(plain.median),
         micro(proved.best) / micro(plain.best),
         micro(proved.median) / micro(plain.median),
+    );
+}
+
+fn write_row(name: &str, list: &Listing, loaders: [&dyn Loader; 2], rounds: usize) {
+    let [proved, plain] = writes(list, loaders, rounds);
+    let each = |d: std::time::Duration| d.as_nanos() as f64 / list.addresses.len() as f64;
+    println!(
+        "| {name} | {:.2} | {:.2} | {:.2} | {:.2} | {:.2} | {:.2} |",
+        each(proved.best),
+        each(proved.median),
+        each(plain.best),
+        each(plain.median),
+        each(proved.best) / each(plain.best),
+        each(proved.median) / each(plain.median),
     );
 }
 
@@ -46,6 +62,18 @@ fn run(words: &[String]) -> Result<(), String> {
     let call = bare(1 << 20);
     row("1024 KiB, no relocations", "load", loads(&call, loaders, rounds));
     row("1024 KiB, no relocations", "examine", examines(&call, loaders, rounds));
+
+    println!("\nNanoseconds a global of write_table, in the same way.\n");
+    println!("| list | first best | first median | second best | second median | best ratio | median ratio |");
+    println!("|---|---|---|---|---|---|---|");
+    write_row("1,024 globals of a byte", &short_globals(1_024), loaders, rounds);
+    for (name, count) in [("1,024", 1_024), ("65,536", 65_536)] {
+        let mixed = mixed_globals(count);
+        let buffer_length = loaders[1].written(&mixed).index() as usize;
+        write_row(&format!("{name} mixed globals"), &mixed, loaders, rounds);
+        let exact = Listing { buffer_length, ..mixed };
+        write_row(&format!("{name} mixed globals, no byte to spare"), &exact, loaders, rounds);
+    }
     Ok(())
 }
 

@@ -75,16 +75,21 @@ fn whole(words: &[String]) -> Result<bool, String> {
     }
     let counts = run(&settings)?;
     println!(
-        "{} calls, {} descriptor steps, against {}",
-        counts.calls, counts.steps, settings.against
+        "{} calls, {} descriptor steps, {} table writes, against {}",
+        counts.calls, counts.steps, counts.writes, settings.against
     );
     println!("taken {}", counts.answers[0]);
     for (i, n) in counts.answers.iter().enumerate().skip(1) {
         println!("refused {i}: {n}");
     }
+    println!("tables taken {}", counts.write_answers[0]);
+    for (i, n) in counts.write_answers.iter().enumerate().skip(1) {
+        println!("tables refused {i}: {n}");
+    }
     println!("different: {}", counts.different);
     if counts.different == 0 {
-        assert!(counts.answers.iter().all(|&n| n > 0), "an answer was never seen");
+        let mut answers = counts.answers.iter().chain(&counts.write_answers);
+        assert!(answers.all(|&n| n > 0), "an answer was never seen");
     }
     Ok(counts.different == 0)
 }

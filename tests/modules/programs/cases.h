@@ -1,0 +1,32 @@
+/* What the programs over tests/vectors share: numbers of the records, and the sum that the answers give. */
+#ifndef CASES_H
+#define CASES_H
+#include <stdint.h>
+#include <stdio.h>
+
+/* A little-endian number from standard input. */
+static int get(uint64_t *value, int bytes)
+{
+    *value = 0;
+    for (int i = 0; i < bytes; i++) {
+        int c = getchar();
+        if (c == EOF)
+            return 0;
+        *value |= (uint64_t)c << (8 * i);
+    }
+    return 1;
+}
+
+/* CRC-32 as zlib computes it. */
+static uint32_t crc(const uint8_t *bytes, size_t length)
+{
+    uint32_t c = 0xffffffff;
+    for (size_t i = 0; i < length; i++) {
+        c ^= bytes[i];
+        for (int bit = 0; bit < 8; bit++)
+            c = c >> 1 ^ (c & 1 ? 0xedb88320 : 0);
+    }
+    return ~c;
+}
+
+#endif
