@@ -19,8 +19,8 @@ use Rattle.rules.proofs.OutcomeLaws.{good-bad, bad-good, true-false, and-left, 
 use Rattle.rules.proofs.ChecksLaws.{first-runs, runs-first}
 use Rattle.rules.proofs.MemoryLaws.{put-front}
 use Rattle.laws.proofs.Checks.{andThen-bad, require-stopped, le-or-lt}
-use Rattle.laws.proofs.Listed.{Listed, listed-good, good-listed, check-at, table-at}
-use Rattle.laws.proofs.Encoding.{descriptor-short, table-bytes}
+use Rattle.laws.proofs.Listed.{Listed, listed-good, good-listed, check-at, table-short}
+use Rattle.laws.proofs.Encoding.{table-bytes}
 use Rattle.demands.specs.Table.{listed}
 use Rattle.demands.specs.Demands.{Exactly}
 use Rattle.demands.specs.Writer.{endBefore, Whole, Fits, Wrong, empty, uneven, before-end, high, FitBelow, Takes, Refuses, unequal, at-global, small}
@@ -208,22 +208,6 @@ module _ (addresses sizes : List ℕ) where
         let here = good-listed i _ _ _ (fits-listed i (h i (omega arith) (omega arith))) in
         from-at i (omega arith) ∙ rw here (fault-from n (suc i) at number (omega arith) b (λ j a c. h j (omega arith) c) w)
 
-    -- ---- the table's length
-
-    length-from : (n i : ℕ) → i + n ≡ length addresses → ((j : ℕ) → i ≤ j → j < length addresses → Fits addresses sizes j)
-        → length (tableFrom (endBefore addresses sizes i) (drop i addresses) (drop i sizes)) ≤ 14 * n
-    unfolding tableFrom
-    length-from zero i e h = rw (drop-of-length-le addresses {i = i} (omega arith)) (omega arith)
-    length-from (suc n) i e h =
-        let f = h i (omega arith) (omega arith) in
-        let after = f .after in
-        let low = f .low in
-        let a = getD addresses i 0 in
-        let s = getD sizes i 0 in
-        let d = descriptor-short ((a - endBefore addresses sizes i) / granule) (s / granule) (omega arith) (omega arith) in
-        let rest = length-from n (suc i) (omega arith) (λ j k b. h j (omega arith) b) in
-        rw (table-at addresses sizes i (omega arith) (omega arith) (endBefore addresses sizes i), length-append, add-one) (omega arith)
-
   -- ---- the call's outcome
 
   module _ (n : ℕ) where
@@ -287,7 +271,7 @@ module _ (addresses sizes : List ℕ) where
       refused-if = λ r h. outcome .refused-if r (refuses-first r h);
       refused-only-if = λ r e. first-refuses r (outcome .refused-only-if r e);
       bytes = table-bytes addresses sizes;
-      short = λ t. length-from (t .as-many) (length addresses) 0 (omega arith) (λ j a b. t .fit j b);
+      short = λ t. table-short addresses sizes (length addresses) 0 0 (omega arith) (t .as-many) (takes-all t .1 .0);
       few = fit-few;
       numbered = refuses-numbered;
       indexed = refuses-few;

@@ -8,6 +8,7 @@ use native.Mathlib.Nat.{pow-suc}
 use native.Mathlib.Omega.{arith}
 use lib.ListN.{length, getD, length-append}
 use lib.Dec.{ltb}
+use lib.Pow.{pow-mono, pow-add}
 use borrow.Author.Tests.{ltb-true, ltb-false, lt-ltb, le-ltb}
 use Rattle.rules.specs.Limits.{addressLimit, granule}
 use Rattle.rules.specs.Descriptors.{sizeLimit}
@@ -61,6 +62,33 @@ bytes-most (suc n) (suc k) v e =
 
 pub uleb-most : (v : ℕ) → v < 2 ^ 64 → length (uleb v) ≤ 10
 uleb-most v h = bytes-most 10 10 v (record { some = omega arith; room = omega arith })
+
+-- by the place j of the highest bit: seven bits a byte
+bits-most : (v j k : ℕ) → 2 ^ j ≤ v → v < 2 ^ k → j < k
+bits-most v j k lo hi = ⊎-elim (λ q. let m : 2 ^ k ≤ 2 ^ j = pow-mono q in absurd (omega arith)) (λ q. q) (le-or-lt k j)
+
+bits-next : (v j : ℕ) → 7 ≤ j → 2 ^ j ≤ v → v < 2 ^ suc j → (2 ^ (j - 7) ≤ v / 128) × (v / 128 < 2 ^ suc (j - 7))
+bits-next v j seven lo hi =
+    let e : j ≡ j - 7 + 7 = omega arith in
+    let p : 2 ^ j ≡ 2 ^ (j - 7) * 128 = ap (λ (x : ℕ). 2 ^ x) e ∙ pow-add 2 (j - 7) 7 in
+    let s : 2 ^ suc j ≡ 2 ^ j * 2 = pow-suc 2 j in
+    let t : 2 ^ suc (j - 7) ≡ 2 ^ (j - 7) * 2 = pow-suc 2 (j - 7) in
+    (omega arith, omega arith)
+
+bits-bytes : (n v j : ℕ) → j < 7 * n → 2 ^ j ≤ v → v < 2 ^ suc j → length (ulebBytes n v) ≡ j / 7 + 1
+unfolding ulebBytes
+bits-bytes zero v j l lo hi = absurd (omega arith)
+bits-bytes (suc n) v j l lo hi =
+    cond-case (λ (t : List ℕ). length t ≡ j / 7 + 1) (ltb v 128) _ _
+    (λ q. let few = bits-most v j 7 lo (ltb-true v 128 q) in omega arith)
+    (λ q.
+    let seven = bits-most 128 7 (suc j) (omega arith) (omega (arith, ltb-false v 128 q)) in
+    let b = bits-next v j (omega arith) lo hi in
+    let again = bits-bytes n (v / 128) (j - 7) (omega arith) (b .0) (b .1) in
+    omega arith)
+
+pub uleb-bits : (v j : ℕ) → j < 64 → 2 ^ j ≤ v → v < 2 ^ suc j → length (uleb v) ≡ j / 7 + 1
+uleb-bits v j l lo hi = bits-bytes 10 v j (omega arith) lo hi
 
 -- the low three bits change nothing in how many
 pub uleb-low : (v low : ℕ) → v % sizeLimit ≡ 0 → low < sizeLimit → length (uleb (v + low)) ≡ length (uleb v)

@@ -1,16 +1,20 @@
 -- A call of the writer, by what it measured.
 -- Assumes nothing.
-use Prim.Native.Nat.{ℕ, _≤_, _<_}
+use Prim.Native.Nat.{ℕ, _/_, _≤_, _<_}
 use mathlib.Core.Path.{_≡_, refl, sym, _∙_}
 use mathlib.Core.List.{List}
+use mathlib.Core.Bool.{Bool, true, false, cond, not}
+use native.Mathlib.Omega.{arith}
 use lib.ListN.{length}
-use borrow.Author.Tests.{eq-eqb, ne-eqb, le-leb, lt-leb}
+use lib.Dec.{leb}
+use borrow.Author.Tests.{eq-eqb, ne-eqb, leb-true, le-leb, lt-leb}
 use Rattle.rules.specs.Outcome.{Outcome, good, bad, refuse, andThen}
 use Rattle.rules.specs.Checks.{Check}
 use Rattle.rules.specs.Memory.{put}
 use Rattle.rules.specs.Writer.{tableOf, listCheck, writtenOf}
 use Rattle.rules.specs.declared.Refusal.{Refusal}
 use Rattle.rules.proofs.OutcomeLaws.{never}
+use Rattle.laws.proofs.Listed.{table-short}
 use Rattle.demands.specs.Writer.{WriteCall}
 use Rattle.writer.specs.Faults.{measured}
 use Rattle.writer.proofs.Laws.{measured-start}
@@ -25,11 +29,12 @@ module _ (addresses sizes lent : List ℕ) where
 
   module _ (l : length addresses ≡ length sizes) where
     -- 2 to 5
-    pub call-measured : (o : Outcome ℕ) (r : Refusal) → o ≡ bad r → o ≡ measured addresses sizes 0 0 0 → WriteCall addresses sizes lent lent o
+    pub call-measured : (counted : Bool) (o : Outcome ℕ) (r : Refusal) → o ≡ bad r → o ≡ measured addresses sizes counted 0 0 0
+        → WriteCall addresses sizes lent lent o
     unfolding writtenOf
-    call-measured o r e m =
+    call-measured counted o r e m =
         let t = eq-eqb (length addresses) (length sizes) l in
-        let c = list-bad (listCheck 0 0 addresses sizes) (length (tableOf addresses sizes)) (sym (measured-start addresses sizes) ∙ sym m ∙ e) in
+        let c = list-bad (listCheck 0 0 addresses sizes) _ (sym (measured-start addresses sizes counted) ∙ sym m ∙ e) in
         record { answered = rw (e, t, c); written = rw (t, c) }
       where
         list-bad : (c : Check) (n : ℕ) → andThen c (λ _. good n) ≡ bad r → c ≡ bad r
@@ -54,10 +59,37 @@ module _ (addresses sizes lent : List ℕ) where
         record { answered = rw (e, t, c, f); written = rw (w, t, c, f) }
 
 -- what was measured
-pub measured-good : (addresses sizes : List ℕ) (n : ℕ) → measured addresses sizes 0 0 0 ≡ good n
-    → (listCheck 0 0 addresses sizes ≡ good tt) × (n ≡ length (tableOf addresses sizes))
-measured-good addresses sizes n e = go (listCheck 0 0 addresses sizes) (sym (measured-start addresses sizes) ∙ e)
+pub measured-good : (addresses sizes : List ℕ) (counted : Bool) (n : ℕ) → measured addresses sizes counted 0 0 0 ≡ good n
+    → (listCheck 0 0 addresses sizes ≡ good tt) × (n ≡ cond counted (length (tableOf addresses sizes)) 0)
+measured-good addresses sizes counted n e = go (listCheck 0 0 addresses sizes) (sym (measured-start addresses sizes counted) ∙ e)
   where
-    go : (c : Check) → andThen c (λ _. good (length (tableOf addresses sizes))) ≡ good n → (c ≡ good tt) × (n ≡ length (tableOf addresses sizes))
+    go : (c : Check) → andThen c (λ _. good (cond counted (length (tableOf addresses sizes)) 0)) ≡ good n
+        → (c ≡ good tt) × (n ≡ cond counted (length (tableOf addresses sizes)) 0)
     go (good u) h = (refl, cc)
     go (bad r) h = search never
+
+-- a buffer has room whatever the table's length
+abbrev pub ample : List ℕ → List ℕ → Bool
+ample addresses lent = leb (length addresses) (length lent / 14)
+
+module _ (addresses sizes lent : List ℕ) (n : ℕ) (e : n ≡ cond (not (ample addresses lent)) (length (tableOf addresses sizes)) 0) where
+  -- too much was measured: it was counted
+  pub measured-much : length lent < n → length lent < length (tableOf addresses sizes)
+  measured-much h = go (ample addresses lent) e
+    where
+      go : (b : Bool) → n ≡ cond (not b) (length (tableOf addresses sizes)) 0 → length lent < length (tableOf addresses sizes)
+      go true q = absurd (omega arith)
+      go false q = omega arith
+
+  -- the table fits: it was counted, or the buffer is ample
+  pub measured-fits : length addresses ≡ length sizes → listCheck 0 0 addresses sizes ≡ good tt → n ≤ length lent
+      → length (tableOf addresses sizes) ≤ length lent
+  measured-fits l c h = go (ample addresses lent) refl e
+    where
+      go : (b : Bool) → ample addresses lent ≡ b → n ≡ cond (not b) (length (tableOf addresses sizes)) 0
+          → length (tableOf addresses sizes) ≤ length lent
+      go true a q =
+          let m = leb-true (length addresses) (length lent / 14) a in
+          let s = table-short addresses sizes (length addresses) 0 0 (omega arith) l c in
+          omega arith
+      go false a q = omega arith

@@ -2,6 +2,7 @@
 -- Assumes nothing.
 use Prim.Native.Nat.{ℕ, zero, suc, _+_, _*_, _-_, _/_, _%_, _^_, _≤_, _<_}
 use mathlib.Core.Path.{_≡_, refl, sym, ap, _∙_}
+use mathlib.Core.Bool.{Bool, true, false, cond}
 use mathlib.Core.List.{List, [], _∷_, _++_}
 use native.Mathlib.Nat.{add-assoc}
 use native.Mathlib.Numerals.{add-one}
@@ -10,14 +11,13 @@ use lib.ListN.{length, getD, set, drop, length-append, drop-of-length-le}
 use borrow.Author.Tests.{lt-ltb, le-ltb, ne-eqb}
 use Rattle.rules.specs.Outcome.{Outcome, good, bad, refuse, andThen}
 use Rattle.rules.specs.Checks.{runs}
-use Rattle.rules.specs.Limits.{granule}
+use Rattle.rules.specs.Limits.{addressLimit}
 use Rattle.rules.specs.Memory.{put}
 use Rattle.rules.specs.Descriptors.{sizeLimit}
 use Rattle.rules.specs.Writer.{uleb, descriptorOf, descriptorAfter, tableFrom, tableOf, listedChecks, listCheck}
-use Rattle.rules.proofs.OutcomeLaws.{andThen-good}
 use Rattle.rules.proofs.MemoryLaws.{put-nil, put-cons, put-length, put-append}
-use Rattle.laws.proofs.Encoding.{uleb-last, uleb-more, descriptor-short}
-use Rattle.laws.proofs.Listed.{Listed, listed-good, check-at, table-at}
+use Rattle.laws.proofs.Encoding.{uleb-last, uleb-more, uleb-low}
+use Rattle.laws.proofs.Listed.{Listed, listed-good, listed-short, check-at, table-at, passed-at}
 use Rattle.writer.specs.Faults.{Judged, measured}
 
 -- ---- a number
@@ -37,6 +37,11 @@ pub put-more : (b : List ℕ) (at v : ℕ) → 128 ≤ v → v < 2 ^ 64 → put 
 put-more b at v h l = rw (uleb-more v h l, add-one) (put-cons b at (v % 128 + 128) (uleb (v / 128)))
 
 -- ---- a descriptor
+
+pub first-length : (distance granules : ℕ) → granules < sizeLimit
+    → length (uleb (sizeLimit * distance + 1)) ≡ length (uleb (sizeLimit * distance + granules))
+first-length distance granules h =
+    uleb-low (sizeLimit * distance) 1 (omega arith) (omega arith) ∙ sym (uleb-low (sizeLimit * distance) granules (omega arith) h)
 
 pub descriptor-one : (distance granules : ℕ) → granules < sizeLimit → descriptorOf distance granules ≡ uleb (sizeLimit * distance + granules)
 descriptor-one distance granules h = rw (lt-ltb granules sizeLimit h)
@@ -73,23 +78,21 @@ judged-good end a s number j n i = j i ∙ rw n
 pub judged-listed : (end a s number : ℕ) → Judged end a s number → number ≡ 0 → Listed end a s
 judged-listed end a s number j n = listed-good 0 end a s (judged-good end a s number j n 0)
 
--- a descriptor is no longer than its global
-pub listed-short : (end a s : ℕ) → Listed end a s → length (descriptorAfter end a s) ≤ s
-listed-short end a s h =
-    let f = h .filled in
-    let w = h .whole-size in
-    let low = h .low in
-    let d = descriptor-short ((a - end) / granule) (s / granule) (omega arith) (omega arith) in
-    omega arith
+-- a descriptor that is counted, or not, is no longer than its global
+pub counted-short : (end a s : ℕ) → Listed end a s → (counted : Bool) (more : ℕ) → more ≡ cond counted (length (descriptorAfter end a s)) 0 → more ≤ s
+counted-short end a s h true more m = let d = listed-short end a s h .1 in omega arith
+counted-short end a s h false more m = omega arith
 
 module _ (addresses sizes : List ℕ) where
-  pub measured-start : measured addresses sizes 0 0 0 ≡ andThen (listCheck 0 0 addresses sizes) (λ _. good (length (tableOf addresses sizes)))
-  measured-start = let z : 0 + length (tableOf addresses sizes) ≡ length (tableOf addresses sizes) = omega arith in rw z
+  pub measured-start : (counted : Bool) → measured addresses sizes counted 0 0 0
+      ≡ andThen (listCheck 0 0 addresses sizes) (λ _. good (cond counted (length (tableOf addresses sizes)) 0))
+  measured-start counted = let z : 0 + length (tableOf addresses sizes) ≡ length (tableOf addresses sizes) = omega arith in rw z
 
   -- every global is behind
-  pub measured-end : (i end total : ℕ) → length addresses ≤ i → measured addresses sizes i end total ≡ good total
+  pub measured-end : (counted : Bool) (i end total : ℕ) → length addresses ≤ i → measured addresses sizes counted i end total ≡ good total
   unfolding listCheck tableFrom
-  measured-end i end total l = rw (drop-of-length-le addresses l) (ap (λ (n : ℕ). good n) (omega arith))
+  measured-end true i end total l = rw (drop-of-length-le addresses l) (ap (λ (n : ℕ). good n) (omega arith))
+  measured-end false i end total l = rw (drop-of-length-le addresses l)
 
   -- every byte is behind
   pub left-end : (i end at : ℕ) (b : List ℕ) → length addresses ≤ i → put b at (tableFrom end (drop i addresses) (drop i sizes)) ≡ b
@@ -102,8 +105,9 @@ module _ (addresses sizes : List ℕ) where
         ≡ andThen (runs (listedChecks i end a s)) (λ _. listCheck (i + 1) (a + s) (drop (i + 1) addresses) (drop (i + 1) sizes))
     check-of = rw (p, q) (check-at addresses sizes i l (omega arith) end)
 
-    pub measured-bad : (total number : ℕ) → Judged end a s number → (number ≡ 0 → ⊥) → measured addresses sizes i end total ≡ refuse number i
-    measured-bad total number j n = rw (check-of, judged-bad end a s number j n i)
+    pub measured-bad : (counted : Bool) (total number : ℕ) → Judged end a s number → (number ≡ 0 → ⊥)
+        → measured addresses sizes counted i end total ≡ refuse number i
+    measured-bad counted total number j n = rw (check-of, judged-bad end a s number j n i)
 
     -- the descriptors from here on
     pub left-at : tableFrom end (drop i addresses) (drop i sizes)
@@ -114,28 +118,54 @@ module _ (addresses sizes : List ℕ) where
         ≡ length (descriptorAfter end a s) + length (tableFrom (a + s) (drop (i + 1) addresses) (drop (i + 1) sizes))
     left-length = rw (left-at, length-append)
 
-    pub measured-next : (total more number : ℕ) → Judged end a s number → number ≡ 0 → more ≡ length (descriptorAfter end a s)
-        → measured addresses sizes i end total ≡ measured addresses sizes (i + 1) (a + s) (total + more)
-    measured-next total more number j n m = rw (check-of, judged-good end a s number j n i, left-length, m, add-assoc)
+    -- one global more is checked, and counted or not
+    pub measured-next : (counted : Bool) (total more number : ℕ) → Judged end a s number → number ≡ 0
+        → more ≡ cond counted (length (descriptorAfter end a s)) 0
+        → measured addresses sizes counted i end total ≡ measured addresses sizes counted (i + 1) (a + s) (total + more)
+    measured-next true total more number j n m = rw (check-of, judged-good end a s number j n i, left-length, m, add-assoc)
+    measured-next false total more number j n m =
+        let z : total + more ≡ total = omega arith in
+        rw (check-of, judged-good end a s number j n i, z)
 
     -- checks that pass, here and after it
-    pub passed-at : listCheck i end (drop i addresses) (drop i sizes) ≡ good tt
+    pub passed-here : listCheck i end (drop i addresses) (drop i sizes) ≡ good tt
         → Listed end a s × (listCheck (i + 1) (a + s) (drop (i + 1) addresses) (drop (i + 1) sizes) ≡ good tt)
-    passed-at h =
-        let r = andThen-good (runs (listedChecks i end a s)) _ (sym check-of ∙ h) in
-        (listed-good i end a s (r .here), r .rest)
+    passed-here h = rw (p, q) (passed-at addresses sizes i end l (omega arith) h)
+
+-- the measuring at the index i: it is the whole one from here on, and no more bytes were counted than the globals have
+pub record Measuring (addresses sizes : List ℕ) (counted : Bool) (i end total : ℕ) : Type 0 where
+  pub below : i ≤ length addresses
+  pub low : end ≤ addressLimit
+  pub most : total ≤ end
+  pub rest : measured addresses sizes counted 0 0 0 ≡ measured addresses sizes counted i end total
+
+pub measuring-next : (addresses sizes : List ℕ) (counted : Bool) (i end total a s number more : ℕ) → Measuring addresses sizes counted i end total
+    → a ≡ getD addresses i 0 → s ≡ getD sizes i 0 → i < length addresses → length addresses ≡ length sizes → Judged end a s number → number ≡ 0
+    → more ≡ cond counted (length (descriptorAfter end a s)) 0 → Measuring addresses sizes counted (i + 1) (a + s) (total + more)
+measuring-next addresses sizes counted i end total a s number more w p q l e j n m =
+    let g = judged-listed end a s number j n in
+    let b = counted-short end a s g counted more m in
+    let t = w .most in
+    let h = g .after in
+    record {
+      below = omega arith;
+      low = g .low;
+      most = omega arith;
+      rest = w .rest ∙ measured-next addresses sizes i end a s p q l e counted total more number j n m;
+    }
 
 -- the writing at the index i: the checks of the globals left pass, their bytes fit, and put at the position they give the table
 pub record Left (addresses sizes lent : List ℕ) (i end at : ℕ) (b : List ℕ) : Type 0 where
   pub counted : i ≤ length addresses
   pub passed : listCheck i end (drop i addresses) (drop i sizes) ≡ good tt
   pub same : length b ≡ length lent
-  pub fits : at + length (tableFrom end (drop i addresses) (drop i sizes)) ≤ length lent
+  pub fits : length (tableOf addresses sizes) ≤ length lent
+  pub whole : at + length (tableFrom end (drop i addresses) (drop i sizes)) ≡ length (tableOf addresses sizes)
   pub gives : put b at (tableFrom end (drop i addresses) (drop i sizes)) ≡ put lent 0 (tableOf addresses sizes)
 
 pub left-start : (addresses sizes lent : List ℕ) → listCheck 0 0 addresses sizes ≡ good tt → length (tableOf addresses sizes) ≤ length lent
     → Left addresses sizes lent 0 0 0 lent
-left-start addresses sizes lent h f = record { counted = omega arith; passed = h; same = refl; fits = omega arith; gives = refl }
+left-start addresses sizes lent h f = record { counted = omega arith; passed = h; same = refl; fits = f; whole = omega arith; gives = refl }
 
 -- one descriptor more is written
 pub left-next : (addresses sizes lent : List ℕ) (i end at : ℕ) (b : List ℕ) (a s next : ℕ) (c : List ℕ) → Left addresses sizes lent i end at b
@@ -143,14 +173,15 @@ pub left-next : (addresses sizes lent : List ℕ) (i end at : ℕ) (b : List ℕ
     → next ≡ at + length (descriptorAfter end a s) → c ≡ put b at (descriptorAfter end a s)
     → Left addresses sizes lent (i + 1) (a + s) next c
 left-next addresses sizes lent i end at b a s next c w p q l e n m =
-    let f = w .fits in
+    let f = w .whole in
     let k = left-length addresses sizes i end a s p q l e in
     let step = put-append b at (descriptorAfter end a s) (tableFrom (a + s) (drop (i + 1) addresses) (drop (i + 1) sizes)) in
     record {
       counted = omega arith;
-      passed = passed-at addresses sizes i end a s p q l e (w .passed) .1;
+      passed = passed-here addresses sizes i end a s p q l e (w .passed) .1;
       same = rw (m, put-length) (w .same);
-      fits = omega arith;
+      fits = w .fits;
+      whole = omega arith;
       gives = rw (m, n) (sym step ∙ rw (← left-at addresses sizes i end a s p q l e) (w .gives));
     }
 
@@ -160,11 +191,16 @@ pub left-now : (addresses sizes lent : List ℕ) (i end at : ℕ) (b : List ℕ)
     → Listed end a s × (at + length (descriptorAfter end a s) ≤ length b)
 left-now addresses sizes lent i end at b a s w p q l e =
     let f = w .fits in
+    let o = w .whole in
     let n = w .same in
     let k = left-length addresses sizes i end a s p q l e in
-    (passed-at addresses sizes i end a s p q l e (w .passed) .0, omega arith)
+    (passed-here addresses sizes i end a s p q l e (w .passed) .0, omega arith)
 
 -- all is written
 pub left-done : (addresses sizes lent : List ℕ) (i end at : ℕ) (b : List ℕ) → Left addresses sizes lent i end at b → length addresses ≤ i
-    → b ≡ put lent 0 (tableOf addresses sizes)
-left-done addresses sizes lent i end at b w l = sym (left-end addresses sizes i end at b l) ∙ w .gives
+    → (at ≡ length (tableOf addresses sizes)) × (b ≡ put lent 0 (tableOf addresses sizes))
+unfolding tableFrom
+left-done addresses sizes lent i end at b w l =
+    let o = w .whole in
+    let z : length (tableFrom end (drop i addresses) (drop i sizes)) ≡ 0 = rw (drop-of-length-le addresses l) in
+    (omega arith, sym (left-end addresses sizes i end at b l) ∙ w .gives)

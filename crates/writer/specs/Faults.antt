@@ -2,7 +2,7 @@
 -- Assumes nothing.
 use Prim.Native.Nat.{ℕ, _+_}
 use mathlib.Core.Path.{_≡_}
-use mathlib.Core.Bool.{cond}
+use mathlib.Core.Bool.{Bool, cond}
 use mathlib.Core.List.{List}
 use lib.ListN.{length, drop}
 use lib.Dec.{eqb}
@@ -14,7 +14,8 @@ use Rattle.rules.specs.Writer.{tableFrom, listedChecks, listCheck}
 abbrev pub Judged : ℕ → ℕ → ℕ → ℕ → Type 0
 Judged end address size number = (i : ℕ) → runs (listedChecks i end address size) ≡ cond (eqb number 0) (good tt) (refuse number i)
 
--- the checks from the index i on, and the table's length with so many bytes before them
-abbrev pub measured : List ℕ → List ℕ → ℕ → ℕ → ℕ → Outcome ℕ
-measured addresses sizes i end total =
-    andThen (listCheck i end (drop i addresses) (drop i sizes)) (λ _. good (total + length (tableFrom end (drop i addresses) (drop i sizes))))
+-- the checks from the index i on, and the table's length with so many bytes before them, where it is counted
+abbrev pub measured : List ℕ → List ℕ → Bool → ℕ → ℕ → ℕ → Outcome ℕ
+measured addresses sizes counted i end total =
+    andThen (listCheck i end (drop i addresses) (drop i sizes))
+    (λ _. good (cond counted (total + length (tableFrom end (drop i addresses) (drop i sizes))) total))

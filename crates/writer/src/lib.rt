@@ -1,5 +1,6 @@
 // Writes the descriptor table of a list of globals.
 ghost use mathlib.Core.Path.{_≡_};
+ghost use mathlib.Core.Bool.{cond};
 ghost use Prim.Native.Nat.{_+_, _*_, _≤_, _<_};
 ghost use lib.ListN.{length, getD};
 ghost use Rattle.rules.specs.Outcome.{good, refuse, andThen};
@@ -19,6 +20,9 @@ const MORE: u64 = 128;
 
 // A first number's size is below this, and its distance counts in units of this.
 const SIZES: u64 = 8;
+
+// Bytes of a descriptor, at most.
+const DESCRIPTOR_LIMIT: usize = 14;
 
 // No fault, and the refusal numbers in their order.
 const FAULTLESS: u8 = 0;
@@ -74,34 +78,43 @@ fn judge(end: u64, address: u64, size: u64) -> u8
     HIGH_END
 }
 
-// Bytes of a number.
+// Bytes of a number, from the place of its highest bit: seven bits a byte.
 fn uleb_length(value: u64) -> u64
+    requires { ⌜ 0 < value ⌝ }
     ensures { λ r. ⌜ r ≡ length (uleb value) ⌝ }
 {
-    let mut v = value;
-    let mut n: u64 = 1;
-    while MORE <= v {
-        v /= MORE;
-        n += 1;
-    }
-    n
+    (63 - u64::leading_zeros(value) as u64) / 7 + 1
 }
 
-// Bytes of a descriptor.
+// Bytes of a descriptor. Low bits below 8 do not change how many bytes the first number has.
 fn descriptor_length(distance: u64, granules: u64) -> u64
-    requires { ⌜ granule * distance + granule * granules ≤ addressLimit ⌝ }
+    requires filled { ⌜ 0 < granules ⌝ }
+    requires small { ⌜ granule * distance + granule * granules ≤ addressLimit ⌝ }
     ensures { λ r. ⌜ r ≡ length (descriptorOf distance granules) ⌝ }
 {
+    let first = uleb_length(SIZES * distance + 1);
     if granules < SIZES {
-        return uleb_length(SIZES * distance + granules);
+        return first;
     }
-    uleb_length(SIZES * distance) + uleb_length(granules - 1)
+    first + uleb_length(granules - 1)
 }
 
-// Checks each global in turn; the table's length.
-fn measure(addresses: &[u64], sizes: &[u64]) -> TableAnswer
+// The same where it is to be counted, else 0.
+fn counted_length(counted: bool, distance: u64, granules: u64) -> u64
+    requires filled { ⌜ 0 < granules ⌝ }
+    requires small { ⌜ granule * distance + granule * granules ≤ addressLimit ⌝ }
+    ensures { λ r. ⌜ r ≡ cond counted (length (descriptorOf distance granules)) 0 ⌝ }
+{
+    if counted {
+        return descriptor_length(distance, granules);
+    }
+    0
+}
+
+// Checks each global in turn; the table's length where it is to be counted, else 0.
+fn measure(addresses: &[u64], sizes: &[u64], counted: bool) -> TableAnswer
     requires { ⌜ length (now addresses) ≡ length (now sizes) ⌝ }
-    ensures { λ r. ⌜ ofTable r ≡ measured (now (addresses .entry)) (now (sizes .entry)) 0 0 0 ⌝ }
+    ensures { λ r. ⌜ ofTable r ≡ measured (now (addresses .entry)) (now (sizes .entry)) counted 0 0 0 ⌝ }
 {
     let mut end: u64 = 0;
     let mut total: u64 = 0;
@@ -112,7 +125,7 @@ fn measure(addresses: &[u64], sizes: &[u64]) -> TableAnswer
         if fault != FAULTLESS {
             return refused(fault, i);
         }
-        total += descriptor_length((address - end) / GRANULE, size / GRANULE);
+        total += counted_length(counted, (address - end) / GRANULE, size / GRANULE);
         end = address + size;
     }
     TableAnswer::Written(total)
@@ -149,12 +162,13 @@ fn write_descriptor(buffer: &mut [u8], at: usize, distance: u64, granules: u64) 
     write_uleb(buffer, next, granules - 1)
 }
 
-// The table over the front of the buffer.
-fn write_list(addresses: &[u64], sizes: &[u64], buffer: &mut [u8])
+// The table over the front of the buffer; its length.
+fn write_list(addresses: &[u64], sizes: &[u64], buffer: &mut [u8]) -> usize
     requires equal { ⌜ length (now addresses) ≡ length (now sizes) ⌝ }
     requires passed { ⌜ listCheck 0 0 (now addresses) (now sizes) ≡ good tt ⌝ }
     requires fits { ⌜ length (tableOf (now addresses) (now sizes)) ≤ length (now buffer) ⌝ }
-    ensures { λ _. ⌜ now (buffer .exit) ≡ put (now (buffer .entry)) 0 (tableOf (now (addresses .entry)) (now (sizes .entry))) ⌝ }
+    ensures counted { λ r. ⌜ r ≡ length (tableOf (now (addresses .entry)) (now (sizes .entry))) ⌝ }
+    ensures written { λ _. ⌜ now (buffer .exit) ≡ put (now (buffer .entry)) 0 (tableOf (now (addresses .entry)) (now (sizes .entry))) ⌝ }
 {
     let mut end: u64 = 0;
     let mut at: usize = 0;
@@ -164,23 +178,25 @@ fn write_list(addresses: &[u64], sizes: &[u64], buffer: &mut [u8])
         at = write_descriptor(buffer, at, (address - end) / GRANULE, size / GRANULE);
         end = address + size;
     }
+    at
 }
 
 // Writes the table of globals, by addresses and byte sizes, to the front of a buffer, and answers its length. A refusal has the
-// index of the global, and writes nothing.
+// index of the global, and writes nothing. In an ample buffer the length need not be known before.
 pub fn write_table(addresses: &[u64], sizes: &[u64], buffer: &mut [u8]) -> TableAnswer
     ensures { λ r. ⌜ WriteCall (now (addresses .entry)) (now (sizes .entry)) (now (buffer .entry)) (now (buffer .exit)) (ofTable r) ⌝ }
 {
     if addresses.len() != sizes.len() {
         return refused(UNEQUAL_LISTS, 0);
     }
-    let answer = measure(addresses, sizes);
-    let TableAnswer::Written(length) = answer else {
+    let ample = addresses.len() <= buffer.len() / DESCRIPTOR_LIMIT;
+    let answer = measure(addresses, sizes, !ample);
+    let TableAnswer::Written(needed) = answer else {
         return answer;
     };
-    if (buffer.len() as u64) < length {
+    if (buffer.len() as u64) < needed {
         return refused(SMALL_BUFFER, 0);
     }
-    write_list(addresses, sizes, buffer);
-    TableAnswer::Written(length)
+    let length = write_list(addresses, sizes, buffer);
+    TableAnswer::Written(length as u64)
 }
