@@ -1,4 +1,4 @@
-// Runs the unmarked cases of the bench sheet, and the words of the marked ones, and writes a line for each.
+// Runs the unmarked cases of the bench sheet, and the words and tables of the marked ones, and writes a line for each.
 use bench_runs::BIAS;
 
 // -1, -128 and -4,096 as eight bytes hold them.
@@ -40,4 +40,5 @@ fn main() {
     bench_runs::run_sheet(b"bias 0x40000800: ", 0x40000800, 0x10c0, 0);
     bench_runs::run_long(b"1024 relocations: ", 1024);
     bench_runs::run_long(b"1025 relocations: ", 1025);
+    bench_report::run_tables();
 }

@@ -1,10 +1,14 @@
-// The lines that the bench writes: of a load, of a number and of a descriptor.
+// The lines that the bench writes: of a load, of a number, of a descriptor and of a table.
 use libc::STDOUT_FILENO;
 use rules::Cursor;
 use rules::Facts;
 use rules::Refusal;
 use rules::Step;
+use rules::TableAnswer;
 use rules::encoding::Uleb;
+
+// Bytes lent for a table.
+const TABLE: usize = 16;
 
 fn end_line() {
     io::write_all(STDOUT_FILENO, b"\n");
@@ -84,4 +88,44 @@ pub fn run_numbers() {
         b"as second number: ",
         b"\x00\xff\xff\xff\xff\xff\xff\xff\xff\xff\x01",
     );
+}
+
+// So many bytes from the front, each with a space before it.
+fn print_bytes(bytes: &[u8], count: u64) {
+    for i in 0..bytes.len() {
+        if (i as u64) < count {
+            io::write_all(STDOUT_FILENO, b" ");
+            io::print_hex(STDOUT_FILENO, reads::byte_at(bytes, i) as u64, 2);
+        }
+    }
+}
+
+// The table of a list of globals: its length and bytes, or the refusal.
+fn run_table(name: &[u8], addresses: &[u64], sizes: &[u64]) {
+    let mut buffer = [0u8; TABLE];
+    io::write_all(STDOUT_FILENO, name);
+    let answer = writer::write_table(addresses, sizes, &mut buffer);
+    match answer {
+        TableAnswer::Written(length) => {
+            io::write_all(STDOUT_FILENO, b"written ");
+            io::print_decimal(STDOUT_FILENO, length);
+            print_bytes(&buffer, length);
+            end_line();
+        }
+        TableAnswer::Refused(r) => {
+            print_refusal(r);
+        }
+    }
+}
+
+// The sheet's three globals; sizes on both sides of a second number; a size of 0.
+pub fn run_tables() {
+    run_table(
+        b"three globals: ",
+        &[0x1000, 0x1040, 0x10c0],
+        &[0x20, 0x80, 0x10],
+    );
+    run_table(b"7 granules: ", &[0], &[0x70]);
+    run_table(b"8 granules: ", &[0], &[0x80]);
+    run_table(b"size 0: ", &[0x1000, 0x1040], &[0x20, 0]);
 }

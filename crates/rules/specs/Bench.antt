@@ -8,19 +8,23 @@ use Rattle.rules.specs.Limits.{granule}
 use Rattle.rules.specs.Descriptors.{Read, global, stepAt, tableStart}
 use Rattle.rules.specs.Plane.{planeOf}
 use Rattle.rules.specs.Words.{wordOf}
+use Rattle.rules.specs.Writer.{writtenOf}
 use Rattle.rules.specs.declared.Cursor.{Cursor}
 use Rattle.rules.specs.declared.Global.{Global}
 use Rattle.rules.specs.declared.Target.the-variants.{Base}
 
--- a descriptor table with the cursor to read it at; or the addend of a RELATIVE word with the place's eight bytes
+-- a descriptor table with the cursor to read it at; or the addend of a RELATIVE word with the place's eight bytes; or addresses and
+-- sizes of globals to write a table of, with the buffer's length
 pub data Case : Type 0 where
   read : List ℕ → Cursor → Case
   word : ℕ → ℕ → Case
+  table : List ℕ → List ℕ → ℕ → Case
 
--- what reading one descriptor comes to; or the word written
+-- what reading one descriptor comes to; or the word written; or the table
 pub data Result : Type 0 where
   reads : Outcome Read → Result
   writes : ℕ → Result
+  gives : Outcome (List ℕ) → Result
 
 pub record Row : Type 0 where
   pub given : Case
@@ -42,6 +46,9 @@ refused bytes = record { given = read bytes tableStart; says = reads (refuse 8 0
 
 abbrev written : ℕ → ℕ → ℕ → Row
 written addend loaded says = record { given = word addend loaded; says = writes says }
+
+abbrev given : List ℕ → List ℕ → ℕ → Outcome (List ℕ) → Row
+given addresses sizes room says = record { given = table addresses sizes room; says = gives says }
 
 -- 82 10 10 07 01: three globals
 abbrev sheet : List ℕ
@@ -76,12 +83,18 @@ rows =
     ∷ written 0x10c0 0 0x05000000400010c0
     ∷ written 0x10c0 (minus 1) 0x09000000400010c0
     ∷ written 0x1020 0 0x0000000040001020
+    ∷ given (0x1000 ∷ 0x1040 ∷ 0x10c0 ∷ []) (0x20 ∷ 0x80 ∷ 0x10 ∷ []) 5 (good sheet)
+    ∷ given (0x1000 ∷ 0x1040 ∷ 0x10c0 ∷ []) (0x20 ∷ 0x80 ∷ 0x10 ∷ []) 4 (refuse 6 0)
+    ∷ given (0 ∷ []) (0x70 ∷ []) 2 (good (0x07 ∷ []))
+    ∷ given (0 ∷ []) (0x80 ∷ []) 2 (good (0x00 ∷ 0x07 ∷ []))
+    ∷ given (0x1000 ∷ 0x1040 ∷ []) (0x20 ∷ 0 ∷ []) 5 (refuse 2 1)
     ∷ []
 
 -- what the definitions say of a case, with index 0 to report
 abbrev pub resultOf : Case → Result
 resultOf (read bytes from) = reads (stepAt 0 bytes from)
 resultOf (word addend loaded) = writes (wordOf plane bias memory Base addend loaded)
+resultOf (table addresses sizes room) = gives (writtenOf addresses sizes room)
 
 -- the claim: each row says what the definitions say of its case
 abbrev pub BenchHolds : Type 0
