@@ -13,13 +13,10 @@ pub extern "C" fn hagolstan_examine(file: &[u8]) -> u64
     ensures { λ v. ⌜ v ≡ packed (examinedOf (now (file .entry))) ⌝ }
 {
     let answer = examine::examine_file(file);
-    let Answer::Taken(facts) = answer else {
-        let Answer::Refused(r) = answer else {
-            return 0;
-        };
-        return packing::pack_refusal(r);
-    };
-    (facts.globals as u64) * 256
+    match answer {
+        Answer::Taken(a) => (a.globals as u64) * 256,
+        Answer::Refused(r) => packing::pack_refusal(r),
+    }
 }
 
 // The facts of a file in one number, or 0 where examine refuses it.
@@ -45,14 +42,7 @@ pub extern "C" fn hagolstan_load(
 ) -> u64
     ensures { λ v. ⌜ Exported (now (file .entry)) bias (now (choices .entry)) (buffers (now (memory .entry)) (now (plane .entry))) (buffers (now (memory .exit)) (now (plane .exit))) v ⌝ }
 {
-    let answer = load::load_module(file, bias, memory, plane, choices);
-    let Answer::Taken(a) = answer else {
-        let Answer::Refused(r) = answer else {
-            return 0;
-        };
-        return packing::pack_refusal(r);
-    };
-    (a.globals as u64) * 256
+    packed_load::load_number(file, bias, memory, plane, choices)
 }
 
 // Reads one descriptor of a table: 0 finished, 1 a global, or the refusal number. Its words go to the lent bytes.
