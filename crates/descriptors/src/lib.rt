@@ -5,14 +5,10 @@ ghost use Rattle.descriptors.specs.Short.{ShortAt};
 use rules::ADDRESS_LIMIT;
 use rules::Cursor;
 use rules::GRANULE;
+use rules::RADIX;
 use rules::Reading;
+use rules::SIZES;
 use rules::Step;
-
-// A byte at least this has another after it.
-const MORE: u64 = 128;
-
-// A first number's size is below this, and its distance counts in units of this.
-const SIZES: u64 = 8;
 
 // A number of one or two bytes and the position after it; 0 where there is none such.
 struct Short {
@@ -35,7 +31,7 @@ fn short_at(s: &[u8], at: u64) -> Short
     let length = s.len() as u64;
     if at < length {
         let low = reads::byte_at(s, at as usize) as u64;
-        if low < MORE {
+        if low < RADIX {
             return Short {
                 value: low,
                 next: at + 1,
@@ -43,9 +39,9 @@ fn short_at(s: &[u8], at: u64) -> Short
         }
         if at + 1 < length {
             let high = reads::byte_at(s, at as usize + 1) as u64;
-            if high < MORE {
+            if high < RADIX {
                 return Short {
-                    value: low - MORE + MORE * high,
+                    value: low - RADIX + RADIX * high,
                     next: at + 2,
                 };
             }

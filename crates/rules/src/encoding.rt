@@ -11,7 +11,9 @@ use crate::ADDRESS_LIMIT;
 use crate::Cursor;
 use crate::GRANULE;
 use crate::Global;
+use crate::RADIX;
 use crate::Refusal;
+use crate::SIZES;
 use crate::Step;
 
 // A ULEB128 number with the position after it, or none.
@@ -26,14 +28,8 @@ const ULEB_BYTES: usize = 10;
 // A byte at least this has another after it.
 const MORE: u8 = 128;
 
-// A byte counts this many times as much as the one before it.
-const RADIX: u64 = 128;
-
 // The tenth byte is below this.
 const TENTH_LIMIT: u8 = 2;
-
-// A first number's size is below this, and its distance counts in units of this.
-const SIZES: u64 = 8;
 
 // A second number and this are the size.
 const SIZE_OFFSET: u64 = 1;

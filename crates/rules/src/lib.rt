@@ -34,6 +34,12 @@ pub const GRANULE: u64 = 16;
 // The bias is a multiple of this.
 pub const PAGE: u64 = 4096;
 
+// A byte of a ULEB128 number counts this many times as much as the one before it, and one that is at least this has another after it.
+pub const RADIX: u64 = 128;
+
+// A descriptor's first number has a size below this, and its distance counts in units of this.
+pub const SIZES: u64 = 8;
+
 // The dynamic tags that are known.
 pub const DT_SYMTAB: u64 = 6;
 

@@ -79,7 +79,8 @@ pub judged-listed : (end a s number : ℕ) → Judged end a s number → number 
 judged-listed end a s number j n = listed-good 0 end a s (judged-good end a s number j n 0)
 
 -- a descriptor that is counted, or not, is no longer than its global
-pub counted-short : (end a s : ℕ) → Listed end a s → (counted : Bool) (more : ℕ) → more ≡ cond counted (length (descriptorAfter end a s)) 0 → more ≤ s
+pub counted-short : (end a s : ℕ) → Listed end a s → (counted : Bool) (more : ℕ) → more ≡ cond counted (length (descriptorAfter end a s)) 0
+    → more ≤ s
 counted-short end a s h true more m = let d = listed-short end a s h .1 in omega arith
 counted-short end a s h false more m = omega arith
 
@@ -140,8 +141,9 @@ pub record Measuring (addresses sizes : List ℕ) (counted : Bool) (i end total 
   pub rest : measured addresses sizes counted 0 0 0 ≡ measured addresses sizes counted i end total
 
 pub measuring-next : (addresses sizes : List ℕ) (counted : Bool) (i end total a s number more : ℕ) → Measuring addresses sizes counted i end total
-    → a ≡ getD addresses i 0 → s ≡ getD sizes i 0 → i < length addresses → length addresses ≡ length sizes → Judged end a s number → number ≡ 0
-    → more ≡ cond counted (length (descriptorAfter end a s)) 0 → Measuring addresses sizes counted (i + 1) (a + s) (total + more)
+    → a ≡ getD addresses i 0 → s ≡ getD sizes i 0 → i < length addresses → length addresses ≡ length sizes
+    → Judged end a s number → number ≡ 0 → more ≡ cond counted (length (descriptorAfter end a s)) 0
+    → Measuring addresses sizes counted (i + 1) (a + s) (total + more)
 measuring-next addresses sizes counted i end total a s number more w p q l e j n m =
     let g = judged-listed end a s number j n in
     let b = counted-short end a s g counted more m in

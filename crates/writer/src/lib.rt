@@ -3,7 +3,7 @@ ghost use mathlib.Core.Path.{_≡_};
 ghost use mathlib.Core.Bool.{cond};
 ghost use Prim.Native.Nat.{_+_, _*_, _≤_, _<_};
 ghost use lib.ListN.{length, getD};
-ghost use Rattle.rules.specs.Outcome.{good, refuse, andThen};
+ghost use Rattle.rules.specs.Outcome.{good, refuse};
 ghost use Rattle.rules.specs.Limits.{addressLimit, granule};
 ghost use Rattle.rules.specs.Memory.{put};
 ghost use Rattle.rules.specs.Writer.{uleb, descriptorOf, tableOf, listCheck};
@@ -12,14 +12,10 @@ ghost use Rattle.demands.specs.Writer.{WriteCall};
 ghost use Rattle.writer.specs.Faults.{Judged, measured};
 use rules::ADDRESS_LIMIT;
 use rules::GRANULE;
+use rules::RADIX;
 use rules::Refusal;
+use rules::SIZES;
 use rules::TableAnswer;
-
-// A byte at least this has another after it, and counts this many times less than the next.
-const MORE: u64 = 128;
-
-// A first number's size is below this, and its distance counts in units of this.
-const SIZES: u64 = 8;
 
 // Bytes of a descriptor, at most.
 const DESCRIPTOR_LIMIT: usize = 14;
@@ -139,9 +135,9 @@ fn write_uleb(buffer: &mut [u8], from: usize, value: u64) -> usize
 {
     let mut at = from;
     let mut v = value;
-    while MORE <= v {
-        buffer[at] = (v % MORE + MORE) as u8;
-        v /= MORE;
+    while RADIX <= v {
+        buffer[at] = (v % RADIX + RADIX) as u8;
+        v /= RADIX;
         at += 1;
     }
     buffer[at] = v as u8;
