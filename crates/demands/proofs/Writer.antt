@@ -1,19 +1,19 @@
 -- The writer takes what it should, refuses by the first fault, and leaves the table or all as lent.
 -- Assumes nothing.
-use Prim.Native.Nat.{ℕ, zero, suc, _+_, _*_, _-_, _/_, _%_, _≤_, _<_}
+use Prim.Native.Nat.{ℕ, zero, suc, _+_, _*_, _%_, _≤_, _<_}
 use mathlib.Core.Path.{_≡_, refl, sym, ap, _∙_, subst}
 use mathlib.Core.Bool.{_&&_, not, true, false, Bool}
 use mathlib.Core.List.{List}
 use mathlib.Core.Logic.{inl, inr, ⊎-elim}
 use native.Mathlib.Numerals.{add-one}
 use native.Mathlib.Omega.{arith}
-use lib.ListN.{length, getD, drop, length-append, drop-of-length-le}
+use lib.ListN.{length, getD, drop, drop-of-length-le}
 use lib.Dec.{eqb, leb}
 use borrow.Author.Tests.{eqb-true, eqb-false, eq-eqb, ne-eqb, leb-true, leb-false, le-leb, lt-leb, not-true, not-false}
 use Rattle.rules.specs.Outcome.{Outcome, good, bad, andThen, refusal, require}
 use Rattle.rules.specs.Checks.{Check, runs, All, First}
 use Rattle.rules.specs.Limits.{addressLimit, granule}
-use Rattle.rules.specs.Writer.{tableFrom, tableOf, listedChecks, listCheck, writerChecks, writtenOf, lengthAfter, bufferAfter}
+use Rattle.rules.specs.Writer.{tableOf, listedChecks, listCheck, writerChecks, writtenOf, lengthAfter, bufferAfter}
 use Rattle.rules.specs.declared.Refusal.{Refusal}
 use Rattle.rules.proofs.OutcomeLaws.{good-bad, bad-good, true-false, and-left, and-right, andThen-good, require-held, require-true, require-false}
 use Rattle.rules.proofs.ChecksLaws.{first-runs, runs-first}

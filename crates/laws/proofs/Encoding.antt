@@ -60,9 +60,6 @@ bytes-most (suc n) (suc k) v e =
     (λ _. omega arith)
     (λ q. let again = bytes-most n k (v / 128) (enough-next k v (ltb-false v 128 q) e) in omega arith)
 
-pub uleb-most : (v : ℕ) → v < 2 ^ 64 → length (uleb v) ≤ 10
-uleb-most v h = bytes-most 10 10 v (record { some = omega arith; room = omega arith })
-
 -- by the place j of the highest bit: seven bits a byte
 bits-most : (v j k : ℕ) → 2 ^ j ≤ v → v < 2 ^ k → j < k
 bits-most v j k lo hi = ⊎-elim (λ q. let m : 2 ^ k ≤ 2 ^ j = pow-mono q in absurd (omega arith)) (λ q. q) (le-or-lt k j)

@@ -1,15 +1,15 @@
 -- The loops of the writer: the checks and the length from an index on, and the bytes that are left to write.
 -- Assumes nothing.
-use Prim.Native.Nat.{ℕ, zero, suc, _+_, _*_, _-_, _/_, _%_, _^_, _≤_, _<_}
+use Prim.Native.Nat.{ℕ, suc, _+_, _*_, _-_, _/_, _%_, _^_, _≤_, _<_}
 use mathlib.Core.Path.{_≡_, refl, sym, ap, _∙_}
 use mathlib.Core.Bool.{Bool, true, false, cond}
-use mathlib.Core.List.{List, [], _∷_, _++_}
+use mathlib.Core.List.{List, [], _++_}
 use native.Mathlib.Nat.{add-assoc}
 use native.Mathlib.Numerals.{add-one}
 use native.Mathlib.Omega.{arith}
 use lib.ListN.{length, getD, set, drop, length-append, drop-of-length-le}
 use borrow.Author.Tests.{lt-ltb, le-ltb, ne-eqb}
-use Rattle.rules.specs.Outcome.{Outcome, good, bad, refuse, andThen}
+use Rattle.rules.specs.Outcome.{good, refuse, andThen}
 use Rattle.rules.specs.Checks.{runs}
 use Rattle.rules.specs.Limits.{addressLimit}
 use Rattle.rules.specs.Memory.{put}
@@ -164,10 +164,6 @@ pub record Left (addresses sizes lent : List ℕ) (i end at : ℕ) (b : List ℕ
   pub fits : length (tableOf addresses sizes) ≤ length lent
   pub whole : at + length (tableFrom end (drop i addresses) (drop i sizes)) ≡ length (tableOf addresses sizes)
   pub gives : put b at (tableFrom end (drop i addresses) (drop i sizes)) ≡ put lent 0 (tableOf addresses sizes)
-
-pub left-start : (addresses sizes lent : List ℕ) → listCheck 0 0 addresses sizes ≡ good tt → length (tableOf addresses sizes) ≤ length lent
-    → Left addresses sizes lent 0 0 0 lent
-left-start addresses sizes lent h f = record { counted = omega arith; passed = h; same = refl; fits = f; whole = omega arith; gives = refl }
 
 -- one descriptor more is written
 pub left-next : (addresses sizes lent : List ℕ) (i end at : ℕ) (b : List ℕ) (a s next : ℕ) (c : List ℕ) → Left addresses sizes lent i end at b

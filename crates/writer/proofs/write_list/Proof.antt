@@ -4,7 +4,7 @@ use Prim.Native.Nat.{_-_}
 use native.Mathlib.Omega.{arith}
 use borrow.Author.Needs.{needs}
 use lib.ListN.{length}
-use Rattle.writer.proofs.Laws.{Left, left-start, left-now, left-next, left-done}
+use Rattle.writer.proofs.Laws.{Left, left-now, left-next, left-done}
 use Rattle.writer.proofs.write_list.Statement.{statement}
 use Rattle.writer.proofs.write_list.Tie as tie
 
