@@ -61,7 +61,8 @@ uint64_t hagolstan_step(const uint8_t *table, size_t table_length, uint64_t posi
 /* Writes the descriptor table of a list of globals, in shortest form: what a linker puts into a module, and what
  * hagolstan_step reads.
  *   addresses   where each global starts in the module, ascending
- *   sizes       the bytes of each global, in the same order; both lists are counted in numbers, not in bytes
+ *   sizes       the bytes of each global, in the same order; both lists are aligned as uint64_t is, and counted in
+ *               numbers, not in bytes
  *   buffer      lent for the table; 14 bytes a global are always enough
  * Taken: the answer is the table's length * 256, the table stands at the start of the buffer, and the bytes after it
  * stay as lent. Refused: the answer is index * 256 + refusal number, and the buffer is byte for byte as lent.

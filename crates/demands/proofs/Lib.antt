@@ -11,11 +11,11 @@ pub mod Standing
 pub mod Tags
 pub mod Refusals
 pub mod Steps
+pub mod Writer
 pub mod Spelling
 pub mod Written
 pub mod Least
 pub mod Rewritten
-pub mod Writer
 pub mod Theorem
 pub mod Calls
 pub mod Promises

@@ -24,10 +24,8 @@ use Rattle.laws.proofs.Encoding.{table-bytes}
 use Rattle.demands.specs.Table.{listed}
 use Rattle.demands.specs.Demands.{Exactly}
 use Rattle.demands.specs.Writer.{endBefore, Whole, Fits, Wrong, empty, uneven, before-end, high, FitBelow, Takes, Refuses, unequal, at-global, small}
-use Rattle.demands.specs.Writer.{writerNumbers, Writes, WriteCall, WriteKept, WriterClaim}
+use Rattle.demands.specs.Writer.{writerNumbers, Writes, WriteCall, WriteKept}
 use Rattle.demands.proofs.Exactly.{exactly}
-use Rattle.demands.proofs.Written.{read-back}
-use Rattle.demands.proofs.Rewritten.{write-back}
 
 -- an index from i on is i, or one after it
 here-or-later : (P : ℕ → Type 0) (i j : ℕ) → i ≤ j → P i → (suc i ≤ j → P j) → P j
@@ -215,7 +213,7 @@ module _ (addresses sizes : List ℕ) where
     unfolding writtenOf
     outcome = exactly (writerChecks addresses sizes n) (tableOf addresses sizes)
 
-    takes-all : Takes addresses sizes n → All (writerChecks addresses sizes n)
+    pub takes-all : Takes addresses sizes n → All (writerChecks addresses sizes n)
     takes-all t = (
       require-true _ 1 0 (eq-eqb _ _ (t .as-many)),
       (fits-from (t .as-many) (length addresses) 0 (omega arith) (λ j a b. t .fit j b), (require-true _ 6 0 (le-leb _ _ (t .room)), tt)),
@@ -306,8 +304,3 @@ kept addresses sizes lent left answer c =
       table-left = λ k q. bad-good (sym a ∙ q);
       refused = λ r q. let z : s ≡ r = cc in (w .refused-only-if r (e ∙ ap bad z), b);
     }
-
--- ---- the demands
-
-pub writer : WriterClaim
-writer = record { writes = writes; read-back = read-back; write-back = write-back; kept = kept }

@@ -1,28 +1,32 @@
 -- The descriptor table that is written reads back as the globals that it was written of, each descriptor in shortest form.
 -- Assumes nothing.
-use Prim.Native.Nat.{ℕ, suc, _+_, _*_, _-_, _/_, _%_, _≤_, _<_}
+use Prim.Native.Nat.{ℕ, _+_, _*_, _-_, _/_, _%_, _≤_, _<_}
 use mathlib.Core.Path.{_≡_, refl, sym, ap, _∙_, subst}
 use mathlib.Core.Bool.{true}
 use mathlib.Core.List.{List, [], _∷_, _++_, append-assoc}
 use mathlib.Core.Logic.{_⊎_, ⊎-elim}
 use native.Mathlib.Nat.{add-assoc}
 use native.Mathlib.Omega.{arith}
-use lib.ListN.{length, getD, drop, length-drop, length-append}
+use lib.ListN.{length, drop, length-drop, length-append}
 use lib.Seq.{drop-drop, drop-append-seam}
 use borrow.Author.Tests.{lt-ltb, le-ltb, le-leb, eq-eqb, ne-eqb}
 use Rattle.rules.specs.Outcome.{Outcome, good}
 use Rattle.rules.specs.Limits.{addressLimit, granule}
 use Rattle.rules.specs.Descriptors.{number, ulebAt, sizeLimit, shortSecond, shortFirst, shortAt}
 use Rattle.rules.specs.Descriptors.{Read, global, globalAfter, second, descriptor, stepAt, tableStart}
-use Rattle.rules.specs.Writer.{uleb, descriptorOf, tableFrom, tableOf}
+use Rattle.rules.specs.Checks.{runs}
+use Rattle.rules.specs.Writer.{uleb, descriptorOf, tableFrom, tableOf, listedChecks, listCheck}
 use Rattle.rules.specs.Choices.{endOf}
 use Rattle.rules.specs.declared.Global.{Global}
 use Rattle.rules.specs.declared.Cursor.{Cursor}
+use Rattle.rules.proofs.OutcomeLaws.{andThen-good}
 use Rattle.laws.proofs.Checks.{le-or-lt}
 use Rattle.laws.proofs.Globals.{Chain}
-use Rattle.demands.specs.Writer.{Whole, Takes, addressesOf, sizesOf, Lists, Shortest, ReadsBack}
+use Rattle.laws.proofs.Listed.{listed-good}
+use Rattle.demands.specs.Writer.{Takes, addressesOf, sizesOf, Lists, Shortest, ReadsBack}
 use Rattle.demands.proofs.Spelling.{tight-unpadded, Spelt, uleb-spelt}
 use Rattle.demands.proofs.Steps.{steps}
+use Rattle.demands.proofs.Writer.{takes-all}
 
 -- ---- one descriptor
 
@@ -151,66 +155,40 @@ paired [] sizes = []
 paired (a ∷ addresses) [] = []
 paired (a ∷ addresses) (s ∷ sizes) = record { start = a; granules = s / granule } ∷ paired addresses sizes
 
--- lists whose globals each stand after the one before, the first after an end
-record Spaced (end : ℕ) (addresses sizes : List ℕ) : Type 0 where
-  as-many : length addresses ≡ length sizes
-  each : (j : ℕ) → j < length addresses → Whole addresses sizes j
-  low : (j : ℕ) → j < length addresses → getD addresses j 0 + getD sizes j 0 ≤ addressLimit
-  starts : 0 < length addresses → end ≤ getD addresses 0 0
-  rise : (j : ℕ) → suc j < length addresses → getD addresses j 0 + getD sizes j 0 ≤ getD addresses (suc j) 0
-
-takes-spaced : (addresses sizes : List ℕ) (n : ℕ) → Takes addresses sizes n → Spaced 0 addresses sizes
-takes-spaced addresses sizes n t = record {
-  as-many = t .as-many;
-  each = λ j l. t .fit j l .whole;
-  low = λ j l. t .fit j l .low;
-  starts = λ l. omega arith;
-  rise = λ j l. t .fit (suc j) l .after;
-}
-
-spaced-rest : (end a s : ℕ) (addresses sizes : List ℕ) → Spaced end (a ∷ addresses) (s ∷ sizes) → Spaced (a + s) addresses sizes
-spaced-rest end a s addresses sizes t = record {
-  as-many = omega (arith, t .as-many);
-  each = λ j l.
-      let w = t .each (suc j) (omega arith) in
-      record { filled = w .filled; whole-size = w .whole-size; whole-address = w .whole-address };
-  low = λ j l. t .low (suc j) (omega arith);
-  starts = λ l. t .rise 0 (omega arith);
-  rise = λ j l. t .rise (suc j) (omega arith);
-}
-
 -- their globals have those addresses and sizes, and follow one another
 record Pairs (end : ℕ) (addresses sizes : List ℕ) : Type 0 where
   same-addresses : addressesOf (paired addresses sizes) ≡ addresses
   same-sizes : sizesOf (paired addresses sizes) ≡ sizes
   chain : Chain addressLimit end (paired addresses sizes)
 
-spaced-pairs : (end : ℕ) (addresses sizes : List ℕ) → Spaced end addresses sizes → Pairs end addresses sizes
-spaced-pairs end [] [] t = record { same-addresses = refl; same-sizes = refl; chain = tt }
-spaced-pairs end [] (s ∷ sizes) t = absurd (omega (arith, t .as-many))
-spaced-pairs end (a ∷ addresses) [] t = absurd (omega (arith, t .as-many))
-spaced-pairs end (a ∷ addresses) (s ∷ sizes) t =
-    let w = t .each 0 (omega arith) in
-    let some : 0 < s = w .filled in
-    let whole : s % granule ≡ 0 = w .whole-size in
-    let low : a + s ≤ addressLimit = t .low 0 (omega arith) in
+checked-pairs : (i end : ℕ) (addresses sizes : List ℕ) → length addresses ≡ length sizes → listCheck i end addresses sizes ≡ good tt
+    → Pairs end addresses sizes
+unfolding listCheck
+checked-pairs i end [] [] n h = record { same-addresses = refl; same-sizes = refl; chain = tt }
+checked-pairs i end [] (s ∷ sizes) n h = absurd (omega arith)
+checked-pairs i end (a ∷ addresses) [] n h = absurd (omega arith)
+checked-pairs i end (a ∷ addresses) (s ∷ sizes) n h =
+    let p = andThen-good (runs (listedChecks i end a s)) _ h in
+    let g = listed-good i end a s (p .here) in
+    let some = g .filled in
+    let whole = g .whole-size in
     let e : granule * (s / granule) ≡ s = omega arith in
-    let rest = spaced-pairs (a + s) addresses sizes (spaced-rest end a s addresses sizes t) in
+    let rest = checked-pairs (i + 1) (a + s) addresses sizes (omega arith) (p .rest) in
     record {
       same-addresses = rw (rest .same-addresses);
       same-sizes = rw (e, rest .same-sizes);
       chain = record {
-        starts = t .starts (omega arith);
-        aligned = w .whole-address;
+        starts = g .after;
+        aligned = g .whole-address;
         filled = omega arith;
-        inside = rw e low;
+        inside = rw e (g .low);
         rest = rw e (rest .chain);
       };
     }
 
 pub read-back : (addresses sizes : List ℕ) (n : ℕ) → Takes addresses sizes n → ReadsBack addresses sizes
 read-back addresses sizes n t =
-    let p = spaced-pairs 0 addresses sizes (takes-spaced addresses sizes n t) in
+    let p = checked-pairs 0 0 addresses sizes (t .as-many) (takes-all addresses sizes n t .1 .0) in
     let gs = paired addresses sizes in
     let table = tableOf addresses sizes in
     let h : table ≡ tableOf (addressesOf gs) (sizesOf gs) = rw (p .same-addresses, p .same-sizes) in

@@ -1,4 +1,4 @@
--- The descriptor table of a list of globals: the checks, and the bytes, in shortest form.
+-- The writer of document 02: the checks of a list of globals, and its descriptor table, by the Memtag ABI's encoding in shortest form.
 -- Assumes nothing.
 use Prim.Native.Nat.{ℕ, zero, suc, _+_, _*_, _-_, _/_, _%_}
 use mathlib.Core.Bool.{cond, not, _&&_}

@@ -2,18 +2,18 @@
 -- Assumes nothing.
 use Prim.Native.Nat.{ℕ, _/_, _≤_, _<_}
 use mathlib.Core.Path.{_≡_, refl, sym, _∙_}
-use mathlib.Core.List.{List}
 use mathlib.Core.Bool.{Bool, true, false, cond, not}
+use mathlib.Core.List.{List}
 use native.Mathlib.Omega.{arith}
 use lib.ListN.{length}
 use lib.Dec.{leb}
 use borrow.Author.Tests.{eq-eqb, ne-eqb, leb-true, le-leb, lt-leb}
-use Rattle.rules.specs.Outcome.{Outcome, good, bad, refuse, andThen}
-use Rattle.rules.specs.Checks.{Check}
+use Rattle.rules.specs.Outcome.{Outcome, good, bad, refuse}
 use Rattle.rules.specs.Memory.{put}
 use Rattle.rules.specs.Writer.{tableOf, listCheck, writtenOf}
 use Rattle.rules.specs.declared.Refusal.{Refusal}
-use Rattle.rules.proofs.OutcomeLaws.{never}
+use Rattle.rules.proofs.OutcomeLaws.{good-bad, andThen-good}
+use Rattle.laws.proofs.Checks.{andThen-bad}
 use Rattle.laws.proofs.Listed.{table-short}
 use Rattle.demands.specs.Writer.{WriteCall}
 use Rattle.writer.specs.Faults.{measured}
@@ -34,12 +34,9 @@ module _ (addresses sizes lent : List ℕ) where
     unfolding writtenOf
     call-measured counted o r e m =
         let t = eq-eqb (length addresses) (length sizes) l in
-        let c = list-bad (listCheck 0 0 addresses sizes) _ (sym (measured-start addresses sizes counted) ∙ sym m ∙ e) in
+        let h = sym (measured-start addresses sizes counted) ∙ (sym m ∙ e) in
+        let c = andThen-bad (listCheck 0 0 addresses sizes) _ h (λ q. q) (λ _ _ s. good-bad s) in
         record { answered = rw (e, t, c); written = rw (t, c) }
-      where
-        list-bad : (c : Check) (n : ℕ) → andThen c (λ _. good n) ≡ bad r → c ≡ bad r
-        list-bad (good u) n h = search never
-        list-bad (bad q) n h = cc
 
     -- 6
     pub call-small : (o : Outcome ℕ) → listCheck 0 0 addresses sizes ≡ good tt → length lent < length (tableOf addresses sizes) → o ≡ refuse 6 0
@@ -61,12 +58,10 @@ module _ (addresses sizes lent : List ℕ) where
 -- what was measured
 pub measured-good : (addresses sizes : List ℕ) (counted : Bool) (n : ℕ) → measured addresses sizes counted 0 0 0 ≡ good n
     → (listCheck 0 0 addresses sizes ≡ good tt) × (n ≡ cond counted (length (tableOf addresses sizes)) 0)
-measured-good addresses sizes counted n e = go (listCheck 0 0 addresses sizes) (sym (measured-start addresses sizes counted) ∙ e)
-  where
-    go : (c : Check) → andThen c (λ _. good (cond counted (length (tableOf addresses sizes)) 0)) ≡ good n
-        → (c ≡ good tt) × (n ≡ cond counted (length (tableOf addresses sizes)) 0)
-    go (good u) h = (refl, cc)
-    go (bad r) h = search never
+measured-good addresses sizes counted n e =
+    let p = andThen-good (listCheck 0 0 addresses sizes) _ (sym (measured-start addresses sizes counted) ∙ e) in
+    let q = p .rest in
+    (p .here, cc)
 
 -- a buffer has room whatever the table's length
 abbrev pub ample : List ℕ → List ℕ → Bool

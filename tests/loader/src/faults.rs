@@ -430,56 +430,16 @@ faults! {
         }
     }
     GranulesFirst "3 before 2" {
-        fn first_broken(address: u64, size: u64, last_end: u64) -> u8 {
-            if !Self::in_granules(address, size) {
-                3
-            } else if !Self::has_size(size) {
-                2
-            } else if !Self::starts_behind(address, last_end) {
-                4
-            } else {
-                5
-            }
-        }
+        const ORDER: [u8; 4] = [3, 2, 4, 5];
     }
     OrderFirst "4 before 2 and 3" {
-        fn first_broken(address: u64, size: u64, last_end: u64) -> u8 {
-            if !Self::starts_behind(address, last_end) {
-                4
-            } else if !Self::has_size(size) {
-                2
-            } else if !Self::in_granules(address, size) {
-                3
-            } else {
-                5
-            }
-        }
+        const ORDER: [u8; 4] = [4, 2, 3, 5];
     }
     EndsBeforeOrder "5 before 4" {
-        fn first_broken(address: u64, size: u64, _: u64) -> u8 {
-            if !Self::has_size(size) {
-                2
-            } else if !Self::in_granules(address, size) {
-                3
-            } else if !Self::ends_inside(address, size) {
-                5
-            } else {
-                4
-            }
-        }
+        const ORDER: [u8; 4] = [2, 3, 5, 4];
     }
     EndsFirst "5 before 2 and 3" {
-        fn first_broken(address: u64, size: u64, _: u64) -> u8 {
-            if !Self::ends_inside(address, size) {
-                5
-            } else if !Self::has_size(size) {
-                2
-            } else if !Self::in_granules(address, size) {
-                3
-            } else {
-                4
-            }
-        }
+        const ORDER: [u8; 4] = [5, 2, 3, 4];
     }
     RuleByRule "each rule over the whole list before the next" {
         const RULE_BY_RULE: bool = true;

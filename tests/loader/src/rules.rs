@@ -215,17 +215,18 @@ pub trait Rules {
         address.checked_add(size).is_some_and(|end| end <= ADDRESS_END)
     }
 
-    /// 2 to 5 in this order at a global that breaks one of them.
+    /// The order of 2 to 5 at a global.
+    const ORDER: [u8; 4] = [2, 3, 4, 5];
+
+    /// The first of them that a global breaks, where it breaks one.
     fn first_broken(address: u64, size: u64, last_end: u64) -> u8 {
-        if !Self::has_size(size) {
-            2
-        } else if !Self::in_granules(address, size) {
-            3
-        } else if !Self::starts_behind(address, last_end) {
-            4
-        } else {
-            5
-        }
+        let broken = |number: &u8| match number {
+            2 => !Self::has_size(size),
+            3 => !Self::in_granules(address, size),
+            4 => !Self::starts_behind(address, last_end),
+            _ => !Self::ends_inside(address, size),
+        };
+        Self::ORDER.into_iter().find(broken).expect("a rule is broken")
     }
 
     /// 2 to 5 come from one walk.

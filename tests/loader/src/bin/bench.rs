@@ -8,31 +8,26 @@ use loader::bench::{mixed_globals, short_globals, writes};
 use loader::compare::partner;
 use std::process::ExitCode;
 
-fn row(image: &str, call: &str, [proved, plain]: [Times; 2]) {
-    let micro = |d: std::time::Duration| d.as_nanos() as f64 / 1000.0;
-    println!(
-        "| {image} | {call} | {:.1} | {:.1} | {:.1} | {:.1} | {:.2} | {:.2} |",
-        micro(proved.best),
-        micro(proved.median),
-        micro(plain.best),
-        micro(plain.median),
-        micro(proved.best) / micro(plain.best),
-        micro(proved.median) / micro(plain.median),
-    );
+/// Best and median of both in a unit of so many nanoseconds, and their ratios.
+fn cells([proved, plain]: [Times; 2], unit: f64, places: usize) -> String {
+    let times = [proved.best, proved.median, plain.best, plain.median];
+    let [a, b, c, d] = times.map(|time| time.as_nanos() as f64 / unit);
+    let ratios = [a / c, b / d].map(|ratio| format!("{ratio:.2}"));
+    [a, b, c, d]
+        .map(|time| format!("{time:.places$}"))
+        .into_iter()
+        .chain(ratios)
+        .collect::<Vec<_>>()
+        .join(" | ")
+}
+
+fn row(image: &str, call: &str, times: [Times; 2]) {
+    println!("| {image} | {call} | {} |", cells(times, 1000.0, 1));
 }
 
 fn write_row(name: &str, list: &Listing, loaders: [&dyn Loader; 2], rounds: usize) {
-    let [proved, plain] = writes(list, loaders, rounds);
-    let each = |d: std::time::Duration| d.as_nanos() as f64 / list.addresses.len() as f64;
-    println!(
-        "| {name} | {:.2} | {:.2} | {:.2} | {:.2} | {:.2} | {:.2} |",
-        each(proved.best),
-        each(proved.median),
-        each(plain.best),
-        each(plain.median),
-        each(proved.best) / each(plain.best),
-        each(proved.median) / each(plain.median),
-    );
+    let times = writes(list, loaders, rounds);
+    println!("| {name} | {} |", cells(times, list.addresses.len() as f64, 2));
 }
 
 fn run(words: &[String]) -> Result<(), String> {
