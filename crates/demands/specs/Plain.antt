@@ -13,7 +13,7 @@ use Rattle.rules.specs.Bytes.{le, part}
 use Rattle.rules.specs.First.{faultsAt}
 use Rattle.rules.specs.Memory.{bytesOf, signed}
 use Rattle.rules.specs.Headers.{headerChecks, theHeaders}
-use Rattle.rules.specs.Segments.{headerAt, isLoad, loadsCheck, loadsEnd, backingOf}
+use Rattle.rules.specs.Segments.{headerAt, isLoad, loadsCheck, loadsEnd, largestAlign, backingOf}
 use Rattle.rules.specs.Dynamic.{dynamicOf, symtab, baseTags, entriesCheck, entryOf}
 use Rattle.rules.specs.Tables.{relocationsOf}
 use Rattle.rules.specs.Reader.{theDynamic, theRelocations}
@@ -92,7 +92,7 @@ plainChecks f m bias n =
     ∷ entriesCheck baseTags f (m .dynamic)
     ∷ passed (relocationsOf f (m .headers) (m .dynamic))
     ∷ relocationsCheck f m
-    ∷ require (memoryFits (loadsEnd f (m .headers)) n bias) 12 0
+    ∷ require (memoryFits (loadsEnd f (m .headers)) (largestAlign f (m .headers)) n bias) 12 0
     ∷ faultsAt 13 (positionAt m) (badBare f m bias) (items m)
     ∷ [])
 

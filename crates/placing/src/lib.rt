@@ -1,9 +1,10 @@
 // Check 12, and the segments placed in memory.
 ghost use mathlib.Core.Path.{_≡_};
-ghost use mathlib.Core.Bool.{_&&_};
+ghost use mathlib.Core.Bool.{cond, _&&_};
+ghost use Prim.Native.Nat.{max};
 ghost use lib.ListN.{length};
-ghost use Rattle.rules.specs.Segments.{loadsEnd};
-ghost use Rattle.rules.specs.Lending.{memoryFits, planeFits, lendingCheck};
+ghost use Rattle.rules.specs.Segments.{isLoad, loadsEnd, largestAlign};
+ghost use Rattle.rules.specs.Lending.{biasFits, memoryFits, planeFits, lendingCheck};
 ghost use Rattle.rules.specs.Image.{putLoad, imageOf};
 ghost use Rattle.rules.specs.Answers.{ofChecked};
 use rules::ADDRESS_LIMIT;
@@ -20,22 +21,55 @@ use segments::PT_LOAD;
 // The refusal number of check 12.
 const BAD_LENDING: u8 = 12;
 
+// The largest align, once this header is seen.
+fn align_after(largest: u64, s: Segment) -> u64
+    ensures { λ r. ⌜ r ≡ cond (isLoad s) (max largest (s .align)) largest ⌝ }
+{
+    if s.kind != PT_LOAD {
+        return largest;
+    }
+    if s.align <= largest {
+        return largest;
+    }
+    s.align
+}
+
+// The largest align of any PT_LOAD; 0 counts as 1.
+fn largest_align(f: &[u8], h: Headers) -> u64
+    ensures { λ r. ⌜ r ≡ largestAlign (now (f .entry)) h ⌝ }
+{
+    let count = h.count;
+    let mut largest = 1u64;
+    for i in 0..count {
+        let s = segments::header_at(f, h, i);
+        largest = align_after(largest, s);
+    }
+    largest
+}
+
+// The bias is a multiple of a page and of the largest align, and leaves room for the memory.
+fn bias_fits(f: &[u8], h: Headers, memory: u64, bias: u64) -> bool
+    ensures { λ r. ⌜ r ≡ biasFits (largestAlign (now (f .entry)) h) memory bias ⌝ }
+{
+    reads::both(
+        bias % PAGE == 0,
+        reads::both(
+            bias % largest_align(f, h) == 0,
+            reads::sum_within(bias, memory, ADDRESS_LIMIT),
+        ),
+    )
+}
+
 // The lent memory, the plane and the bias fit.
 fn lending_fits(f: &[u8], h: Headers, memory: u64, plane: u64, bias: u64) -> bool
-    ensures { λ r. ⌜ r ≡ (memoryFits (loadsEnd (now (f .entry)) h) memory bias && planeFits memory plane) ⌝ }
+    ensures { λ r. ⌜ r ≡ (memoryFits (loadsEnd (now (f .entry)) h) (largestAlign (now (f .entry)) h) memory bias && planeFits memory plane) ⌝ }
 {
     reads::both(
         reads::both(
             memory % GRANULE == 0,
             reads::both(
                 segments::loads_end_within(f, h, memory),
-                reads::both(
-                    memory <= MEMORY_LIMIT,
-                    reads::both(
-                        bias % PAGE == 0,
-                        reads::sum_within(bias, memory, ADDRESS_LIMIT),
-                    ),
-                ),
+                reads::both(memory <= MEMORY_LIMIT, bias_fits(f, h, memory, bias)),
             ),
         ),
         plane == memory / GRANULE,

@@ -1,6 +1,6 @@
 -- Check 4, and what the PT_LOADs hold.
 -- Assumes nothing.
-use Prim.Native.Nat.{ℕ, zero, suc, _+_, _*_, _-_, _/_, _%_, _^_}
+use Prim.Native.Nat.{ℕ, zero, suc, _+_, _*_, _-_, _/_, _%_, _^_, max}
 use mathlib.Core.Bool.{Bool, false, cond, not, _&&_, _||_}
 use mathlib.Core.List.{List}
 use lib.ListN.{length}
@@ -64,6 +64,15 @@ endBefore f h (suc i) = cond (isLoad (headerAt f h i)) (headerAt f h i .vaddr + 
 -- the end of the last PT_LOAD
 abbrev pub loadsEnd : List ℕ → Headers → ℕ
 loadsEnd f h = endBefore f h (h .count)
+
+-- the largest align of the PT_LOADs below the index i; 0 counts as 1
+unfoldable pub alignBefore : List ℕ → Headers → ℕ → ℕ
+alignBefore f h zero = 1
+alignBefore f h (suc i) = cond (isLoad (headerAt f h i)) (max (alignBefore f h i) (headerAt f h i .align)) (alignBefore f h i)
+
+-- the largest align of any PT_LOAD
+abbrev pub largestAlign : List ℕ → Headers → ℕ
+largestAlign f h = alignBefore f h (h .count)
 
 -- check 4: a bad PT_LOAD
 unfoldable pub badLoad : List ℕ → Headers → ℕ → Bool

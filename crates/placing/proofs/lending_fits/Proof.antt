@@ -10,16 +10,15 @@ use Rattle.placing.proofs.lending_fits.Tie as tie
 returns : tie.Need-returns
 unfolding memoryFits planeFits
 returns c =
-    let B4 = c .before in
-    let B3 = B4 .before in
+    let B3 = c .before in
     let B2 = B3 .before in
     let B1 = B2 .before in
-    let W = B1 .before in
-    let a = W .before .before .before .args in
-    rw (c .both5 .ensures, B4 .both4 .ensures)
-    (whole-granules (a .memory) (a .plane) (B3 .both3 .result)
-    ∙ rw (B3 .both3 .ensures, B2 .both2 .ensures, B1 .both .ensures, W .sum-within .ensures, W .before .loads-end-within .ensures))
+    let F = B1 .before in
+    let a = F .before .before .before .args in
+    rw (c .both4 .ensures, B3 .both3 .ensures)
+    (whole-granules (a .memory) (a .plane) (B2 .both2 .result)
+    ∙ rw (B2 .both2 .ensures, B1 .both .ensures, F .bias-fits .ensures, F .before .loads-end-within .ensures))
 
 pub lending-fits-spec : {M : Type 1} → statement M
 lending-fits-spec =
-    tie.close (tie.spec (search needs) (search needs) (search needs) (search needs) (search needs) (search needs) (search needs) returns)
+    tie.close (tie.spec (search needs) (search needs) (search needs) (search needs) (search needs) (search needs) returns)
