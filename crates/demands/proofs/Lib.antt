@@ -2,6 +2,7 @@ pub mod Lowest
 pub mod Table
 pub mod Exactly
 pub mod Reading
+pub mod Lending
 pub mod Plane
 pub mod Guards
 pub mod Image

@@ -10,7 +10,7 @@ use lib.ListN.{length}
 use lib.Dec.{leb, eqb}
 use borrow.Author.Tests.{eqb-true, leb-true}
 use Rattle.rules.specs.Limits.{granule, page, memoryLimit, addressLimit}
-use Rattle.rules.specs.Segments.{loadsEnd}
+use Rattle.rules.specs.Segments.{loadsEnd, largestAlign}
 use Rattle.rules.specs.Relocations.{placeAt, live, items}
 use Rattle.rules.specs.Lending.{memoryFits, planeFits}
 use Rattle.rules.specs.Addresses.{natural, addressAt}
@@ -27,6 +27,7 @@ use Rattle.laws.proofs.Places.{address-small, places-apart}
 use Rattle.laws.proofs.Writes.{Apart, writes-length, writes-at, writes-other, le-bytes}
 use Rattle.demands.proofs.Exactly.{Passes, passes-fits}
 use Rattle.demands.proofs.Reading.{Reads, module-reads}
+use Rattle.demands.proofs.Lending.{Lent, memory-lent, plane-lent, lent-in-step}
 use Rattle.demands.proofs.Plane.{Chosen, choices-chosen, plane-holds, plane-small}
 use Rattle.demands.proofs.Image.{image-size, image-holds}
 use Rattle.demands.proofs.Sources.{tagOf-small}
@@ -36,31 +37,9 @@ use Rattle.demands.specs.Demands.{Relocates, Leaves}
 pub in-run : (k n : ℕ) → k < n → k < 0 + n
 in-run k n l = omega arith
 
--- the lent memory and the bias fit
-pub record Lent (last n bias : ℕ) : Type 0 where
-  pub whole : n % 16 ≡ 0
-  pub holds : last ≤ n
-  pub low : bias + n ≤ addressLimit
-
-memory-lent : (last n bias : ℕ) → memoryFits last n bias ≡ true → Lent last n bias
-unfolding memoryFits
-memory-lent last n bias h =
-    let a = and-right (eqb (n % granule) 0) _ h in
-    let b = and-right (leb last n) _ a in
-    let c = and-right (leb n memoryLimit) _ b in
-    record {
-      whole = eqb-true (n % granule) 0 (and-left (eqb (n % granule) 0) _ h);
-      holds = leb-true last n (and-left (leb last n) _ a);
-      low = leb-true (bias + n) addressLimit (and-right (eqb (bias % page) 0) _ c);
-    }
-
-plane-lent : (n p : ℕ) → planeFits n p ≡ true → 16 * p ≡ n
-unfolding planeFits
-plane-lent n p h = eqb-true (granule * p) n h
-
 pub record Stands (f : List ℕ) (bias n p : ℕ) (choices : List ℕ) (m : Module) : Type 0 where
   pub reading : Reads f m
-  pub lent : Lent (loadsEnd f (m .headers)) n bias
+  pub lent : Lent (loadsEnd f (m .headers)) (largestAlign f (m .headers)) n bias
   pub planed : 16 * p ≡ n
   pub rising : Rising (globalsIn f m) (loadsEnd f (m .headers))
   pub chosen : Chosen (globalsIn f m) choices
@@ -72,7 +51,7 @@ module _ (f : List ℕ) (bias n p : ℕ) (choices : List ℕ) (m : Module) where
   passes-stands c =
       let r = module-reads f m (c .reads) in
       let fits = passes-fits f bias n p choices m c in
-      let t = memory-lent (loadsEnd f (m .headers)) n bias (fits .0) in
+      let t = memory-lent (loadsEnd f (m .headers)) (largestAlign f (m .headers)) n bias (fits .0) in
       let z = image-size f (m .headers) n in
       record {
         reading = r;
@@ -103,6 +82,7 @@ module _ (f : List ℕ) (bias n p : ℕ) (choices : List ℕ) (m : Module) where
     pub leaves : Leaves f bias n p choices m (loaded f m bias n p choices)
     leaves = record {
       the-facts = refl;
+      in-step = lent-in-step f (m .headers) (s .reading .loads) bias n (s .lent);
       the-globals = record {
         whole = λ j l. s .rising .each j l .aligned;
         filled = λ j l. s .rising .each j l .filled;

@@ -9,6 +9,7 @@ use Rattle.rules.specs.Load.{Loaded, loadOf, loaded}
 use Rattle.rules.specs.declared.Module.{Module}
 use Rattle.laws.proofs.Checks.{either}
 use Rattle.demands.proofs.Exactly.{exactly-read, exactly-examined, exactly-loaded, same-facts, Passes, taken-passes}
+use Rattle.demands.proofs.Lending.{lends}
 use Rattle.demands.proofs.Standing.{passes-stands, leaves}
 use Rattle.demands.proofs.Refusals.{examines, load-refusal, load-facts}
 use Rattle.demands.proofs.Guards.{idle}
@@ -39,6 +40,7 @@ demands f bias n p choices = record {
   examine = exactly-examined f;
   load = exactly-loaded f bias n p choices;
   same-facts = same-facts f bias n p choices;
+  lends = λ m passed. lends f m bias n p passed;
   leaves = of-taken f bias n p choices (Leaves f bias n p choices) (λ m c. leaves f bias n p choices m (passes-stands f bias n p choices m c));
   tags = of-taken f bias n p choices (Tags f bias n p choices) (λ m c. tags f bias n p m choices c);
   guards-idle = idle f;

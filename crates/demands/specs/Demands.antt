@@ -28,6 +28,7 @@ use Rattle.rules.specs.declared.Module.{Module}
 use Rattle.rules.specs.declared.Facts.{Facts}
 use Rattle.rules.specs.declared.Target.the-variants.{Undefined}
 use Rattle.demands.specs.Plain.{plainOf}
+use Rattle.demands.specs.Lending.{Lends, InStep}
 use Rattle.demands.specs.Table.{readerNumbers, examineNumbers, loadNumbers, listed, positionLimit}
 
 -- ---- demand 1: one outcome or the other, and a refusal changes nothing
@@ -133,6 +134,7 @@ pub record Memory (f : List ℕ) (bias n : ℕ) (m : Module) (image plane memory
 -- what a load of module m leaves
 pub record Leaves (f : List ℕ) (bias n p : ℕ) (choices : List ℕ) (m : Module) (l : Loaded) : Type 0 where
   pub the-facts : l .facts ≡ factsOf f m
+  pub in-step : InStep f (m .headers) bias
   pub the-globals : Globals (globalsIn f m) n
   pub the-plane : Plane (globalsIn f m) choices p (l .plane)
   pub the-image : Image f m n (imageOf f (m .headers) n)
@@ -218,6 +220,7 @@ pub record Demands (f : List ℕ) (bias n p : ℕ) (choices : List ℕ) : Type 0
   pub examine : Exactly (examinedOf f) (examineChecks f) (factsOf f (theModule f))
   pub load : Exactly (loadOf f bias n p choices) (loadChecks f bias n p choices) (loaded f (theModule f) bias n p choices)
   pub same-facts : SameFacts f bias n p choices
+  pub lends : (m : Module) → loadsCheck f (m .headers) ≡ good tt → Lends f m bias n p
   pub leaves : (m : Module) (l : Loaded) → moduleOf f ≡ good m → loadOf f bias n p choices ≡ good l → Leaves f bias n p choices m l
   pub tags : (m : Module) (l : Loaded) → moduleOf f ≡ good m → loadOf f bias n p choices ≡ good l → Tags f bias n p choices m l
   pub guards-idle : (h : Headers) → headersOf f ≡ good h → loadsCheck f h ≡ good tt → Idle f h

@@ -83,6 +83,10 @@ plainModule f = record {
   globals = 0;
 }
 
+-- its check 12 asks of the memory's length and of the bias
+abbrev pub plainLending : List ℕ → Module → ℕ → ℕ → Check
+plainLending f m bias n = require (memoryFits (loadsEnd f (m .headers)) (largestAlign f (m .headers)) n bias) 12 0
+
 -- checks 1 to 7 and 10 to 13 in their order, where the five memtag tags are unknown
 abbrev pub plainChecks : List ℕ → Module → ℕ → ℕ → List Check
 plainChecks f m bias n =
@@ -92,7 +96,7 @@ plainChecks f m bias n =
     ∷ entriesCheck baseTags f (m .dynamic)
     ∷ passed (relocationsOf f (m .headers) (m .dynamic))
     ∷ relocationsCheck f m
-    ∷ require (memoryFits (loadsEnd f (m .headers)) (largestAlign f (m .headers)) n bias) 12 0
+    ∷ plainLending f m bias n
     ∷ faultsAt 13 (positionAt m) (badBare f m bias) (items m)
     ∷ [])
 

@@ -2,6 +2,7 @@ pub mod Checks
 pub mod Stages
 pub mod KnownTags
 pub mod Loads
+pub mod Aligns
 pub mod Writes
 pub mod Globals
 pub mod Encoding

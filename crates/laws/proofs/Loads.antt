@@ -12,7 +12,7 @@ use lib.Dec.{leb, eqb}
 use borrow.Author.Tests.{leb-true, not-false}
 use Rattle.rules.specs.Outcome.{good}
 use Rattle.rules.specs.Limits.{memoryLimit}
-use Rattle.rules.specs.Segments.{headerAt, isLoad, goodLoad, endBefore, badLoad, loadsCheck, loadsEnd, covers, holds, inMemory, holdsAt, writable}
+use Rattle.rules.specs.Segments.{headerAt, isLoad, aligned, goodLoad, endBefore, badLoad, loadsCheck, loadsEnd, covers, holds, inMemory, holdsAt, writable}
 use Rattle.rules.specs.declared.Headers.{Headers}
 use Rattle.rules.specs.declared.Segment.{Segment}
 use Rattle.rules.proofs.OutcomeLaws.{and-left, and-right}
@@ -24,6 +24,7 @@ pub record Good (size last : ℕ) (s : Segment) : Type 0 where
   pub in-file : s .offset + s .filesz ≤ size
   pub in-limit : s .vaddr + s .memsz ≤ memoryLimit
   pub after : last ≤ s .vaddr
+  pub in-step : aligned (s .align) (s .offset) (s .vaddr) ≡ true
 
 goodLoad-facts : (size last : ℕ) (s : Segment) → goodLoad size last s ≡ true → Good size last s
 unfolding goodLoad
@@ -37,6 +38,7 @@ goodLoad-facts size last s h =
       in-file = leb-true _ _ (and-left (leb (s .offset + s .filesz) size) _ b);
       in-limit = leb-true _ _ (and-left (leb (s .vaddr + s .memsz) memoryLimit) _ c);
       after = leb-true _ _ (and-left (leb last (s .vaddr)) _ d);
+      in-step = and-right (leb last (s .vaddr)) _ d;
     }
 
 pub covers-within : (start size a n : ℕ) → covers start size a n ≡ true → (start ≤ a) × (a + n ≤ start + size)

@@ -1,0 +1,127 @@
+-- Check 12 says what `specs/Lending.antt` says: the largest align stands for every align.
+-- Assumes nothing.
+use Prim.Native.Nat.{ℕ, zero, suc, _+_, _*_, _%_, _≤_, _<_, _∣_}
+use mathlib.Core.Path.{_≡_, sym, ap, _∙_}
+use mathlib.Core.Bool.{true, _&&_}
+use mathlib.Core.List.{List}
+use mathlib.Core.Logic.{_⊎_, ⊎-elim}
+use native.Mathlib.Nat.{mod-eq-zero-of-dvd, dvd-of-mod-eq-zero, mod-add-mod, zero-add}
+use native.Mathlib.Omega.{arith}
+use lib.Dec.{leb, eqb}
+use borrow.Author.Tests.{eqb-true, leb-true, eq-eqb, le-leb}
+use Rattle.rules.specs.Outcome.{good}
+use Rattle.rules.specs.Limits.{granule, page, memoryLimit, addressLimit}
+use Rattle.rules.specs.Segments.{headerAt, isLoad, endBefore, loadsEnd, largestAlign, loadsCheck}
+use Rattle.rules.specs.Lending.{biasFits, memoryFits, planeFits, lendingFits, lendingCheck}
+use Rattle.rules.specs.declared.Headers.{Headers}
+use Rattle.rules.specs.declared.Module.{Module}
+use Rattle.rules.proofs.OutcomeLaws.{and-left, and-right, require-held}
+use Rattle.laws.proofs.Checks.{cond-case}
+use Rattle.laws.proofs.Loads.{load-good, load-end}
+use Rattle.laws.proofs.Aligns.{aligned-agree, largest-each, each-largest}
+use Rattle.demands.specs.Lending.{Each, Fits, Lends, InStep}
+
+-- the lent memory and the bias fit, where the PT_LOADs end at last and align is their largest
+pub record Lent (last align n bias : ℕ) : Type 0 where
+  pub whole : granule ∣ n
+  pub holds : last ≤ n
+  pub short : n ≤ memoryLimit
+  pub paged : page ∣ bias
+  pub multiple : align ∣ bias
+  pub low : bias + n ≤ addressLimit
+
+pub memory-lent : (last align n bias : ℕ) → memoryFits last align n bias ≡ true → Lent last align n bias
+unfolding memoryFits biasFits
+memory-lent last align n bias h =
+    let a = and-right (eqb (n % granule) 0) _ h in
+    let b = and-right (leb last n) _ a in
+    let c = and-right (leb n memoryLimit) _ b in
+    let d = and-right (eqb (bias % page) 0) _ c in
+    record {
+      whole = dvd-of-mod-eq-zero granule (eqb-true (n % granule) 0 (and-left (eqb (n % granule) 0) _ h));
+      holds = leb-true last n (and-left (leb last n) _ a);
+      short = leb-true n memoryLimit (and-left (leb n memoryLimit) _ b);
+      paged = dvd-of-mod-eq-zero page (eqb-true (bias % page) 0 (and-left (eqb (bias % page) 0) _ c));
+      multiple = dvd-of-mod-eq-zero align (eqb-true (bias % align) 0 (and-left (eqb (bias % align) 0) _ d));
+      low = leb-true (bias + n) addressLimit (and-right (eqb (bias % align) 0) _ d);
+    }
+
+lent-memory : (last align n bias : ℕ) → Lent last align n bias → memoryFits last align n bias ≡ true
+unfolding memoryFits biasFits
+lent-memory last align n bias t =
+    rw (
+      eq-eqb (n % granule) 0 (mod-eq-zero-of-dvd granule (t .whole)),
+      le-leb last n (t .holds),
+      le-leb n memoryLimit (t .short),
+      eq-eqb (bias % page) 0 (mod-eq-zero-of-dvd page (t .paged)),
+      eq-eqb (bias % align) 0 (mod-eq-zero-of-dvd align (t .multiple)),
+      le-leb (bias + n) addressLimit (t .low),
+    )
+
+-- where each PT_LOAD ends by n the last one does
+ends-within : (f : List ℕ) (h : Headers) (n k : ℕ)
+    → ((i : ℕ) → i < k → isLoad (headerAt f h i) ≡ true → headerAt f h i .vaddr + headerAt f h i .memsz ≤ n) → endBefore f h k ≤ n
+unfolding endBefore
+ends-within f h n zero each = omega arith
+ends-within f h n (suc k) each =
+    cond-case (λ z. z ≤ n) (isLoad (headerAt f h k)) _ _
+    (λ t. each k (omega arith) t)
+    (λ _. ends-within f h n k (λ i l e. each i (omega arith) e))
+
+module _ (f : List ℕ) (h : Headers) (passed : loadsCheck f h ≡ good tt) (bias n : ℕ) where
+  lent-fits : Lent (loadsEnd f h) (largestAlign f h) n bias → Fits f h bias n
+  lent-fits t = record {
+    whole = t .whole;
+    holds = λ i l e. let b = load-end f h passed (h .count) i (omega arith) l e in let c = t .holds in omega arith;
+    short = t .short;
+    paged = t .paged;
+    aligned = largest-each f h passed bias (t .multiple);
+    low = t .low;
+  }
+
+  fits-lent : Fits f h bias n → Lent (loadsEnd f h) (largestAlign f h) n bias
+  fits-lent t = record {
+    whole = t .whole;
+    holds = ends-within f h n (h .count) (t .holds);
+    short = t .short;
+    paged = t .paged;
+    multiple = each-largest f h bias (h .count) (t .aligned);
+    low = t .low;
+  }
+
+  -- a bias that is a multiple of an align moves no address modulo it
+  pub lent-in-step : Lent (loadsEnd f h) (largestAlign f h) n bias → InStep f h bias
+  lent-in-step t i l e pos =
+      let s = headerAt f h i in
+      ⊎-elim
+      (λ (z : s .align ≡ 0). absurd (omega arith))
+      (λ (d : s .align ∣ bias).
+      sym (mod-add-mod bias (s .align) (s .vaddr))
+      ∙ rw (mod-eq-zero-of-dvd (s .align) d, zero-add) (sym (aligned-agree (s .align) (s .offset) (s .vaddr) (load-good f h passed i l e .in-step) pos)))
+      (largest-each f h passed bias (t .multiple) i l e)
+
+pub plane-lent : (n p : ℕ) → planeFits n p ≡ true → granule * p ≡ n
+unfolding planeFits
+plane-lent n p h = eqb-true (granule * p) n h
+
+lent-plane : (n p : ℕ) → granule * p ≡ n → planeFits n p ≡ true
+unfolding planeFits
+lent-plane n p e = eq-eqb (granule * p) n e
+
+pub lends : (f : List ℕ) (m : Module) (bias n p : ℕ) → loadsCheck f (m .headers) ≡ good tt → Lends f m bias n p
+unfolding lendingCheck lendingFits
+lends f m bias n p passed =
+    let last = loadsEnd f (m .headers) in
+    let align = largestAlign f (m .headers) in
+    let fits : memoryFits last align n bias ≡ true → Fits f (m .headers) bias n =
+    λ e. lent-fits f (m .headers) passed bias n (memory-lent last align n bias e) in
+    let unfits : Fits f (m .headers) bias n → memoryFits last align n bias ≡ true =
+    λ t. lent-memory last align n bias (fits-lent f (m .headers) passed bias n t) in
+    record {
+      lends-if = λ t q. rw (unfits t, lent-plane n p q);
+      lends-only-if = λ e.
+          let b = require-held (memoryFits last align n bias && planeFits n p) 12 0 e in
+          (fits (and-left (memoryFits last align n bias) (planeFits n p) b), plane-lent n p (and-right (memoryFits last align n bias) (planeFits n p) b));
+      plain-if = λ t. rw (unfits t);
+      plain-only-if = λ e. fits (require-held (memoryFits last align n bias) 12 0 e);
+    }
