@@ -38,6 +38,8 @@ fn main() {
     run_addresses();
     run_choices();
     bench_runs::run_sheet(b"bias 0x40000800: ", 0x40000800, 0x10c0, 0);
+    bench_runs::run_aligned(b"align 16384, bias 4096: ", 16384, 4096);
+    bench_runs::run_aligned(b"align 16384, bias 16384: ", 16384, 16384);
     bench_runs::run_long(b"1024 relocations: ", 1024);
     bench_runs::run_long(b"1025 relocations: ", 1025);
     bench_report::run_tables();

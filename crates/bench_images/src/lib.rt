@@ -96,6 +96,13 @@ fn put_image(f: &mut [u8], filesz: u64, memsz: u64, entries: u32) {
     memory::put_bytes(f, DESCRIPTORS, b"\x82\x10\x10\x07\x01");
 }
 
+// The align of the image's PT_LOAD.
+pub fn put_align(f: &mut [u8], align: u64)
+    ensures { λ _. ⌜ now (f .exit) ≡ putWord (now (f .entry)) 112 align ⌝ }
+{
+    memory::put64(f, HEADERS + 48, align);
+}
+
 // So many relocations of one addend, at places that follow one another from a first.
 fn put_relocations(f: &mut [u8], entries: u32, place: u32, addend: u64) {
     for i in 0..entries {

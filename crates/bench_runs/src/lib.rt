@@ -42,19 +42,32 @@ fn run_load(
     }
 }
 
-// The sheet's image with one relocation and any choices.
-pub fn run_choices(name: &[u8], bias: u64, addend: u64, loaded: u64, choices: &[u8]) {
-    let mut f = [0u8; FILE];
+// Loads the sheet's image.
+fn run_image(f: &[u8], name: &[u8], bias: u64, choices: &[u8]) {
     let mut memory = [0u8; SHEET_MEMORY];
     let mut plane = [0u8; SHEET_PLANE];
-    bench_images::put_sheet(&mut f, SHEET_MEMORY as u64, addend, loaded);
     io::write_all(STDOUT_FILENO, name);
-    run_load(&f, bias, &mut memory, &mut plane, choices, SHEET_PLACE);
+    run_load(f, bias, &mut memory, &mut plane, choices, SHEET_PLACE);
+}
+
+// With one relocation and any choices.
+pub fn run_choices(name: &[u8], bias: u64, addend: u64, loaded: u64, choices: &[u8]) {
+    let mut f = [0u8; FILE];
+    bench_images::put_sheet(&mut f, SHEET_MEMORY as u64, addend, loaded);
+    run_image(&f, name, bias, choices);
 }
 
 // With the sheet's tags.
 pub fn run_sheet(name: &[u8], bias: u64, addend: u64, loaded: u64) {
     run_choices(name, bias, addend, loaded, b"\x03\x09\x05");
+}
+
+// With an align of its PT_LOAD.
+pub fn run_aligned(name: &[u8], align: u64, bias: u64) {
+    let mut f = [0u8; FILE];
+    bench_images::put_sheet(&mut f, SHEET_MEMORY as u64, 0x10c0, 0);
+    bench_images::put_align(&mut f, align);
+    run_image(&f, name, bias, b"\x03\x09\x05");
 }
 
 // An image with so many relocations; the word is that of the entry of index 1,023.

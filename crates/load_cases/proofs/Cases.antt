@@ -5,7 +5,7 @@ use Rattle.rules.specs.Bytes.{le}
 use Rattle.rules.specs.First.{first, countBelow}
 use Rattle.rules.specs.Memory.{over, put, putWord}
 use Rattle.rules.specs.Headers.{sizeCheck, wrongByte, identificationCheck, goodHeader, headerCheck, headersOf}
-use Rattle.rules.specs.Segments.{headerAt, powerBelow, aligned, goodLoad, endBefore, badLoad, loadsCheck}
+use Rattle.rules.specs.Segments.{headerAt, powerBelow, aligned, goodLoad, endBefore, alignBefore, badLoad, loadsCheck}
 use Rattle.rules.specs.Segments.{covers, backs, backsAt, backer, backingOf, holds, holdsAt, inMemory}
 use Rattle.rules.specs.Dynamic.{isDynamicAt, dynamicFrom, isNullAt, nullEntry, goodSize, dynamicAt, dynamicOf}
 use Rattle.rules.specs.Dynamic.{isRow, rowOf, hasTagAt, tagBefore, badEntry, hasTag, partnerless, entriesCheck, entryOf}
@@ -15,7 +15,7 @@ use Rattle.rules.specs.Relocations.{symbolBacking, symbolOf, targetOf, namedTar
 use Rattle.rules.specs.Relocations.{badRelocation, firstBad, relocationsCheck, wordsOf}
 use Rattle.rules.specs.Reader.{moduleOf}
 use Rattle.rules.specs.Examine.{factsOf}
-use Rattle.rules.specs.Lending.{memoryFits, planeFits, lendingFits, lendingCheck}
+use Rattle.rules.specs.Lending.{biasFits, memoryFits, planeFits, lendingFits, lendingCheck}
 use Rattle.rules.specs.Addresses.{badAddress, addressesCheck}
 use Rattle.rules.specs.Choices.{badChoice, choicesFor}
 use Rattle.rules.specs.Image.{loadsOver, loadedIn}
@@ -27,17 +27,18 @@ use Rattle.load_cases.specs.Cases.{LoadCasesHold}
 
 pub load-cases-hold : LoadCasesHold
 unfolding le first countBelow over put putWord sizeCheck wrongByte identificationCheck goodHeader headerCheck headersOf
-    headerAt powerBelow aligned goodLoad endBefore badLoad loadsCheck covers backs backsAt backer backingOf holds holdsAt inMemory
+    headerAt powerBelow aligned goodLoad endBefore alignBefore badLoad loadsCheck covers backs backsAt backer backingOf holds holdsAt inMemory
     isDynamicAt dynamicFrom isNullAt nullEntry goodSize dynamicAt dynamicOf isRow rowOf hasTagAt tagBefore badEntry hasTag partnerless
     entriesCheck entryOf tableBacking relocationsOf descriptorsOf ulebIn globalAfter second descriptor stepAt globalsFrom globalsOf
     symbolBacking symbolOf targetOf namedTarget target hasPlace taken placeFits goodPlace badRelocation firstBad
-    relocationsCheck wordsOf moduleOf factsOf memoryFits planeFits lendingFits lendingCheck loadsOver loadedIn badAddress addressesCheck badChoice choicesFor
-    tagged writes loadOf segmentsOf badBare bareWords plainOf
+    relocationsCheck wordsOf moduleOf factsOf biasFits memoryFits planeFits lendingFits lendingCheck loadsOver loadedIn badAddress
+    addressesCheck badChoice choicesFor tagged writes loadOf segmentsOf badBare bareWords plainOf
 load-cases-hold = record {
   load = refl;
   plain = refl;
   taken = refl;
   lending = refl;
+  aligns = refl;
   addresses = refl;
   choices = refl;
   plain-answers = refl;

@@ -99,6 +99,23 @@ lendingCases =
     ∷ lent (with sample (entry 0) 8 660) 0x40000800 720 45 (5 ∷ 9 ∷ 3 ∷ []) (refuse 11 0)
     ∷ []
 
+-- an align for the first PT_LOAD, and a bias; the last PT_LOAD's is 64
+abbrev first : ℕ → ℕ → Outcome Facts → Case
+first align at says = lent (with sample (header 0 + 48) 8 align) at 720 45 (5 ∷ 9 ∷ 3 ∷ []) says
+
+-- aligns: the bias a multiple of 4,096, of half the largest, of the largest; a largest of 2^63, with bias 0 and another; an align of 2,
+-- with a bias no multiple of 4,096; PT_DYNAMIC's, which is not asked
+abbrev pub alignCases : List Case
+alignCases =
+    first 16384 4096 (refuse 12 0)
+    ∷ first 16384 8192 (refuse 12 0)
+    ∷ first 16384 49152 (good (factsWith 3 3))
+    ∷ first (2 ^ 63) 0 (good (factsWith 3 3))
+    ∷ first (2 ^ 63) (2 ^ 47) (refuse 12 0)
+    ∷ first 2 2048 (refuse 12 0)
+    ∷ lent (with sample (header 2 + 48) 8 16384) 4096 720 45 (5 ∷ 9 ∷ 3 ∷ []) (good (factsWith 3 3))
+    ∷ []
+
 -- addresses: -1; 2^48; that of a symbol; that of a weak undefined one; an addend below 0 that is allowed; 12 before 13
 abbrev pub addressCases : List Case
 addressCases =
@@ -141,7 +158,7 @@ abbrev withTag : ℕ → ℕ → List ℕ
 withTag tag value = put sample (dynamic 7) (dynamicEntry tag value)
 
 -- RELR; the order, where two checks refuse: 3 before 4, 4 before 5, 6 before 7 and 11, 11 before 12, 12 before 13; 13; what it knows nothing
--- of: a mode of 2, a descriptor cut short
+-- of: a mode of 2, a descriptor cut short; the bias by the first PT_LOAD's align
 abbrev pub plainCases : List PlainCase
 plainCases =
     bare (withTag 36 0) bias (refuse 6 7)
@@ -154,6 +171,8 @@ plainCases =
     ∷ bare (with sample (entry 0 + 16) 8 (minus 0x40000001)) bias (refuse 13 0)
     ∷ bare (withTag 0x70000009 2) bias (good tt)
     ∷ bare (with sample (descriptor 3) 1 0x80) bias (good tt)
+    ∷ bare (with sample (header 0 + 48) 8 16384) 4096 (refuse 12 0)
+    ∷ bare (with sample (header 0 + 48) 8 16384) 16384 (good tt)
     ∷ []
 
 abbrev pub PlainAnswered : List PlainCase → Type 0
@@ -167,6 +186,7 @@ pub record LoadCasesHold : Type 0 where
   pub plain : plainOf sample bias 720 ≡ good (memoryOf 0x400002b0 0x400002a4)
   pub taken : Answered takenCases
   pub lending : Answered lendingCases
+  pub aligns : Answered alignCases
   pub addresses : Answered addressCases
   pub choices : Answered choiceCases
   pub plain-answers : PlainAnswered plainCases
