@@ -3,7 +3,7 @@ ghost use mathlib.Core.Path.{_≡_};
 ghost use mathlib.Core.Bool.{cond, _&&_};
 ghost use Prim.Native.Nat.{max};
 ghost use lib.ListN.{length};
-ghost use Rattle.rules.specs.Segments.{isLoad, loadsEnd, largestAlign};
+ghost use Rattle.rules.specs.Segments.{headerAt, isLoad, loadsEnd, largestAlign};
 ghost use Rattle.rules.specs.Lending.{biasFits, memoryFits, planeFits, lendingCheck};
 ghost use Rattle.rules.specs.Image.{putLoad, imageOf};
 ghost use Rattle.rules.specs.Answers.{ofChecked};
@@ -16,22 +16,25 @@ use rules::Module;
 use rules::PAGE;
 use rules::Refusal;
 use rules::Segment;
+use segments::HEADER_BYTES;
 use segments::PT_LOAD;
 
 // The refusal number of check 12.
 const BAD_LENDING: u8 = 12;
 
-// The largest align, once this header is seen.
-fn align_after(largest: u64, s: Segment) -> u64
-    ensures { λ r. ⌜ r ≡ cond (isLoad s) (max largest (s .align)) largest ⌝ }
+// The largest align, once the header of an index is seen. Only the fields that are asked for are read.
+fn align_after(f: &[u8], h: Headers, largest: u64, i: u32) -> u64
+    ensures { λ r. ⌜ r ≡ cond (isLoad (headerAt (now (f .entry)) h i)) (max largest (headerAt (now (f .entry)) h i .align)) largest ⌝ }
 {
-    if s.kind != PT_LOAD {
+    let at = h.table as usize + HEADER_BYTES * (i as usize);
+    if reads::read32(f, at) != PT_LOAD {
         return largest;
     }
-    if s.align <= largest {
+    let align = reads::read64(f, at + 48);
+    if align <= largest {
         return largest;
     }
-    s.align
+    align
 }
 
 // The largest align of any PT_LOAD; 0 counts as 1.
@@ -41,8 +44,7 @@ fn largest_align(f: &[u8], h: Headers) -> u64
     let count = h.count;
     let mut largest = 1u64;
     for i in 0..count {
-        let s = segments::header_at(f, h, i);
-        largest = align_after(largest, s);
+        largest = align_after(f, h, largest, i);
     }
     largest
 }

@@ -22,7 +22,8 @@ pub const NO_SPAN: Span = Span { start: 0, size: 0 };
 // The kind of a PT_LOAD.
 pub const PT_LOAD: u32 = 1;
 
-const HEADER_BYTES: usize = 56;
+// Bytes of a program header.
+pub const HEADER_BYTES: usize = 56;
 
 // The program header of an index.
 pub fn header_at(f: &[u8], h: Headers, i: u32) -> Segment

@@ -22,8 +22,8 @@ loop-holds c = (omega arith, refl)
 loop-again : tie.Need-loop-again Inv-loop μ-loop
 unfolding alignBefore
 loop-again c =
-    let l = c .before .before .before .loop in
-    (omega arith, rw (add-one, ← c .before .header-at .ensures, ← l .inv .1) (c .align-after .ensures))
+    let l = c .before .before .loop in
+    (omega arith, rw (add-one, ← l .inv .1) (c .align-after .ensures))
 
 returns : tie.Need-returns Inv-loop μ-loop
 returns c =
@@ -34,4 +34,4 @@ returns c =
 
 pub largest-align-spec : {M : Type 1} → statement M
 largest-align-spec =
-    tie.close (tie.spec Inv-loop μ-loop loop-holds (search needs) (search needs) (search needs) (search needs) loop-again returns)
+    tie.close (tie.spec Inv-loop μ-loop loop-holds (search needs) (search needs) (search needs) loop-again returns)
