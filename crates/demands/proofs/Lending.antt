@@ -1,7 +1,7 @@
 -- Check 12 says what `specs/Lending.antt` says: the largest align stands for every align.
 -- Assumes nothing.
 use Prim.Native.Nat.{ℕ, zero, suc, _+_, _*_, _%_, _≤_, _<_, _∣_}
-use mathlib.Core.Path.{_≡_, sym, ap, _∙_}
+use mathlib.Core.Path.{_≡_, sym, _∙_}
 use mathlib.Core.Bool.{true, _&&_}
 use mathlib.Core.List.{List}
 use mathlib.Core.Logic.{_⊎_, ⊎-elim}
@@ -19,7 +19,7 @@ use Rattle.rules.proofs.OutcomeLaws.{and-left, and-right, require-held}
 use Rattle.laws.proofs.Checks.{cond-case}
 use Rattle.laws.proofs.Loads.{load-good, load-end}
 use Rattle.laws.proofs.Aligns.{aligned-agree, largest-each, each-largest}
-use Rattle.demands.specs.Lending.{Each, Fits, Lends, InStep}
+use Rattle.demands.specs.Lending.{Fits, Lends, InStep}
 
 -- the lent memory and the bias fit, where the PT_LOADs end at last and align is their largest
 pub record Lent (last align n bias : ℕ) : Type 0 where

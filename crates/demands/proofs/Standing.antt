@@ -1,18 +1,14 @@
 -- What holds of a load that passes checks 1 to 14, and what it leaves.
 -- Assumes nothing.
-use Prim.Native.Nat.{ℕ, _+_, _*_, _%_, _≤_, _<_}
+use Prim.Native.Nat.{ℕ, _+_, _*_, _≤_, _<_}
 use mathlib.Core.Path.{_≡_, refl, _∙_}
-use mathlib.Core.Bool.{true}
 use mathlib.Core.List.{List}
 use mathlib.Core.Logic.{inl, inr, ⊎-elim}
 use native.Mathlib.Omega.{arith}
 use lib.ListN.{length}
-use lib.Dec.{leb, eqb}
-use borrow.Author.Tests.{eqb-true, leb-true}
-use Rattle.rules.specs.Limits.{granule, page, memoryLimit, addressLimit}
+use Rattle.rules.specs.Limits.{addressLimit}
 use Rattle.rules.specs.Segments.{loadsEnd, largestAlign}
 use Rattle.rules.specs.Relocations.{placeAt, live, items}
-use Rattle.rules.specs.Lending.{memoryFits, planeFits}
 use Rattle.rules.specs.Addresses.{natural, addressAt}
 use Rattle.rules.specs.Choices.{globalsIn}
 use Rattle.rules.specs.Image.{imageOf}
@@ -20,7 +16,6 @@ use Rattle.rules.specs.Plane.{planeOf}
 use Rattle.rules.specs.Words.{sourceAt, tagOf, wordAt}
 use Rattle.rules.specs.Load.{loaded}
 use Rattle.rules.specs.declared.Module.{Module}
-use Rattle.rules.proofs.OutcomeLaws.{and-left, and-right}
 use Rattle.laws.proofs.Checks.{le-or-lt}
 use Rattle.laws.proofs.Globals.{Rising, globals-rising}
 use Rattle.laws.proofs.Places.{address-small, places-apart}

@@ -1,8 +1,8 @@
 -- Aligns of PT_LOADs that pass check 4 are powers of two: a multiple of the largest is a multiple of each.
 -- Assumes nothing.
-use Prim.Native.Nat.{ℕ, zero, suc, _+_, _-_, _*_, _%_, _^_, _≤_, _<_, _∣_, max}
-use mathlib.Core.Path.{_≡_, refl, sym, ap, _∙_, subst}
-use mathlib.Core.Bool.{Bool, true, false, cond, _&&_, _||_}
+use Prim.Native.Nat.{ℕ, zero, suc, _+_, _-_, _%_, _^_, _≤_, _<_, _∣_, max}
+use mathlib.Core.Path.{_≡_, refl, sym, _∙_, subst}
+use mathlib.Core.Bool.{Bool, true, false, _&&_, _||_}
 use mathlib.Core.List.{List}
 use mathlib.Core.Logic.{_⊎_, inl, inr, ⊎-elim}
 use native.Mathlib.Nat.{dvd-trans, one-dvd, dvd-mul-right, max-eq-left, max-eq-right, le-max-left, le-max-right, eq-or-lt-of-le, le-of-suc-le-suc}
@@ -13,7 +13,6 @@ use borrow.Author.Tests.{eqb-true, ltb-true}
 use Rattle.rules.specs.Outcome.{good}
 use Rattle.rules.specs.Segments.{headerAt, isLoad, powerBelow, aligned, alignBefore, loadsCheck}
 use Rattle.rules.specs.declared.Headers.{Headers}
-use Rattle.rules.specs.declared.Segment.{Segment}
 use Rattle.rules.proofs.OutcomeLaws.{false-true, and-left, and-right}
 use Rattle.laws.proofs.Checks.{cond-case, le-or-lt}
 use Rattle.laws.proofs.Loads.{load-good}
