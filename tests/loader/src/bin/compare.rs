@@ -58,7 +58,7 @@ fn whole(words: &[String]) -> Result<bool, String> {
         against: "archive".to_owned(),
         seed: SEED,
         first: 0,
-        cases: count(20_000),
+        cases: count(22_000),
         dump: "different".to_owned(),
         stop: 5,
     };

@@ -408,16 +408,16 @@ impl Module {
     }
 
     fn choose_run(&mut self, r: &mut Random) {
-        let least = up(self.last_end(), 16);
+        let (least, unit) = (up(self.last_end(), 16), self.bias_unit());
         self.memory = match r.below(8) {
             0..=2 => least,
             3..=5 => least + r.below(40) * 16,
-            6 => up(least, 4096),
+            // The highest bias may end such a memory at 2^48.
+            6 => up(least, unit.min(1 << 16)),
             _ => least + 16,
         }
         .min(LARGEST);
         self.plane = self.memory / 16;
-        let unit = self.bias_unit();
         let bias = match r.below(6) {
             0 | 1 => 0,
             2 => unit.saturating_mul(r.below(50)),
