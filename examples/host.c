@@ -32,7 +32,7 @@ static const struct {
     {"a global lies outside every PT_LOAD, or there are over 1,024", "descriptor"},
     {"the kind or the symbol of a relocation is not allowed", "relocation"},
     {"the place of a relocation is no multiple of 8, read-only, outside the module or used before", "relocation"},
-    {"the lent memory or the tag plane does not fit the module, or the bias does not fit its largest align", ""},
+    {"the lent memory, the tag plane or the bias does not fit the module and its largest align", ""},
     {"a relocated address is below 0 or at least 2^48", "relocation"},
     {"the number of tag choices is not the number of globals, or a choice is bad", "choice, or the number of globals"},
 };
@@ -145,10 +145,12 @@ int main(int count, char **words)
         bias = unit <= 0x40000000 ? 0x40000000 : unit <= HIGHEST ? unit : 0;
 
     answer = hagolstan_load(file, length, bias, memory, sizeof memory, plane, sizeof plane, choices, globals);
-    if (HAGOLSTAN_REFUSAL(answer) == 12)
-        printf("bias 0x%" PRIx64 ": it must be a multiple of 0x%" PRIx64 " and at most 0x%" PRIx64 "\n", bias, unit, HIGHEST);
-    if (HAGOLSTAN_REFUSAL(answer))
-        return refused(answer);
+    if (HAGOLSTAN_REFUSAL(answer)) {
+        refused(answer);
+        if (HAGOLSTAN_REFUSAL(answer) == 12)
+            printf("the bias must be a multiple of 0x%" PRIx64 " and at most 0x%" PRIx64 "\n", unit, HIGHEST);
+        return 1;
+    }
     show_globals(bias);
     show_pointers(bias);
     return 0;

@@ -168,7 +168,7 @@ fn aligns() {
         for bias in std::iter::once(0).chain((0..47).flat_map(|i| [1 << i, 3 << i])) {
             let call = aligned(align, bias);
             let fits = bias % 4_096 == 0 && bias % align.max(1) == 0;
-            let expected = if fits { Ok(bias + 0x10c0 | 5 << 56) } else { refused(12, 0) };
+            let expected = if fits { Ok(bias + 0x10c0 + (5 << 56)) } else { refused(12, 0) };
             assert_eq!(word(&call), expected, "align {align:#x}, bias {bias:#x}");
             let untagged = load_untagged(&call.file, bias, call.memory_length as u64);
             let bare = untagged.map(|u| u.memory[PLACE as usize..][..8].to_vec());

@@ -44,6 +44,20 @@ fn a_difference_is_shown_and_replayed() {
 }
 
 #[test]
+fn the_untagged_loader_is_compared() {
+    let shown = |fault, line| {
+        let against = format!("fault:{fault}");
+        let dump = PathBuf::from(env!("CARGO_TARGET_TMPDIR")).join("untagged");
+        let words = ["--against", &against, "--cases", "0", "--stop", "1", "--dump"];
+        let (code, text) = run(COMPARE, &[&words[..], &[dump.to_str().unwrap()]].concat());
+        assert_eq!(code, Some(1), "{text}");
+        assert!(text.contains(line), "{text}");
+    };
+    shown("the bias by 4,096 alone", "\n  untagged: refused 12 at 0, other taken\n");
+    shown("symbols read from relocated memory", "\n  memory but for tags: 6 bytes, first at ");
+}
+
+#[test]
 fn a_different_table_is_shown() {
     let against = "fault:the size as second number";
     let words = ["--against", against, "--cases", "0", "--stop", "1"];

@@ -52,7 +52,7 @@ impl Aligns {
         let alone = memory % 16 == 0
             && (end..=1 << 20).contains(&memory)
             && call.plane_length as u64 == memory / 16
-            && call.bias % 4096 == 0
+            && call.bias.is_multiple_of(4096)
             && call.bias <= (1 << 48) - memory;
         if largest <= 4096 || !alone {
             return;
