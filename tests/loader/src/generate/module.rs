@@ -144,7 +144,7 @@ pub struct Shape {
     pub spare: Option<bool>,
     /// Bytes of memory after each file part.
     pub bss: Option<u64>,
-    /// Every load is at its own offset, so that any power of two is a good align.
+    /// Every load's address is its offset, so that any power of two is a good align.
     pub level: bool,
     pub file_length: Option<usize>,
 }
@@ -241,6 +241,7 @@ impl Module {
         let mut offset = if headers_first { front } else { 64 };
         let mut address = if r.once_in(3) { 0 } else { r.below(20) * r.pick(&[16, 16, 256, 1]) };
         for i in 0..loads {
+            // Address and offset the same: they agree by any power of two.
             let level = shape.level || address < 1 << 14 && r.once_in(6);
             let align = if level {
                 1 << if r.once_in(3) { r.below(64) } else { r.below(21) }
@@ -250,8 +251,7 @@ impl Module {
                 r.pick(&[0, 1, 1, 2, 8, 16, 16, 64, 256, 4096])
             };
             if level {
-                let covers = i == 0 && covers_headers;
-                offset = if covers { 0 } else { offset.max(address) };
+                offset = if i == 0 && covers_headers { 0 } else { offset.max(address) };
                 address = offset;
             } else if i == 0 && covers_headers {
                 (offset, address) = (0, up(address, align.max(1)));
