@@ -3,7 +3,8 @@
  *     cc -std=c99 -Iinclude examples/host.c target/staticlib/libhagolstan.a -o target/host
  *     target/host MODULE [BIAS]
  *
- * Ends with 0 when the module is taken, 1 when it is refused, 2 when it cannot be read or BIAS is no number. */
+ * Without BIAS it takes one that fits the module. Ends with 0 when the module is taken, 1 when it is refused, 2 when it
+ * cannot be read or BIAS is no number. */
 #include <errno.h>
 #include <inttypes.h>
 #include <stdio.h>
@@ -11,6 +12,7 @@
 #include "hagolstan.h"
 
 #define LIMIT 1048576 /* bytes of a file, and of memory */
+#define HIGHEST ((UINT64_C(1) << 48) - LIMIT) /* bias that leaves room for memory */
 
 static uint8_t file[LIMIT + 1], memory[LIMIT], plane[LIMIT / 16], choices[1024];
 
@@ -30,7 +32,7 @@ static const struct {
     {"a global lies outside every PT_LOAD, or there are over 1,024", "descriptor"},
     {"the kind or the symbol of a relocation is not allowed", "relocation"},
     {"the place of a relocation is no multiple of 8, read-only, outside the module or used before", "relocation"},
-    {"the lent memory, the tag plane or the bias does not fit the module", ""},
+    {"the lent memory, the tag plane or the bias does not fit the module and its largest align", ""},
     {"a relocated address is below 0 or at least 2^48", "relocation"},
     {"the number of tag choices is not the number of globals, or a choice is bad", "choice, or the number of globals"},
 };
@@ -63,19 +65,31 @@ static void show_globals(uint64_t bias)
     }
 }
 
-static uint64_t word_at(size_t place)
+static uint64_t number(const uint8_t *bytes, size_t count)
 {
-    uint64_t word = 0;
-    for (size_t i = 8; i-- > 0;)
-        word = word << 8 | memory[place + i];
-    return word;
+    uint64_t value = 0;
+    while (count-- > 0)
+        value = value << 8 | bytes[count];
+    return value;
+}
+
+/* What the bias must be a multiple of: 4,096 and the largest align of a PT_LOAD, powers of two both. The program headers
+ * of a file that was examined and taken are inside it. */
+static uint64_t bias_unit(void)
+{
+    uint64_t unit = 4096;
+    const uint8_t *header = file + number(file + 32, 8);
+    for (uint64_t left = number(file + 56, 2); left > 0; left--, header += 56)
+        if (number(header, 4) == 1 && number(header + 48, 8) > unit)
+            unit = number(header + 48, 8);
+    return unit;
 }
 
 /* Shows the words that point into the module. */
 static void show_pointers(uint64_t bias)
 {
     for (size_t place = 0; place < sizeof memory; place += 8) {
-        uint64_t word = word_at(place), address = word & ((UINT64_C(1) << 56) - 1);
+        uint64_t word = number(memory + place, 8), address = word & ((UINT64_C(1) << 56) - 1);
         if (bias <= address && address - bias < sizeof memory)
             printf("word at 0x%" PRIx64 ": 0x%" PRIx64 " tag %u\n", bias + place, address, (unsigned)(word >> 56));
     }
@@ -92,7 +106,7 @@ static int read_bias(const char *word, uint64_t *bias)
 
 int main(int count, char **words)
 {
-    uint64_t bias = 0x40000000;
+    uint64_t bias = 0;
     if (count < 2 || count > 3 || (count == 3 && !read_bias(words[2], &bias))) {
         fprintf(stderr, "usage: host MODULE [BIAS]\n");
         return 2;
@@ -125,9 +139,18 @@ int main(int count, char **words)
     for (size_t i = 0; i < globals; i++)
         choices[i] = (uint8_t)(1 + 7 * i % 15);
 
+    /* 0x40000000, or the next multiple of a larger unit; 0 where that is too high. */
+    uint64_t unit = bias_unit();
+    if (count == 2)
+        bias = unit <= 0x40000000 ? 0x40000000 : unit <= HIGHEST ? unit : 0;
+
     answer = hagolstan_load(file, length, bias, memory, sizeof memory, plane, sizeof plane, choices, globals);
-    if (HAGOLSTAN_REFUSAL(answer))
-        return refused(answer);
+    if (HAGOLSTAN_REFUSAL(answer)) {
+        refused(answer);
+        if (HAGOLSTAN_REFUSAL(answer) == 12)
+            printf("the bias must be a multiple of 0x%" PRIx64 " and at most 0x%" PRIx64 "\n", unit, HIGHEST);
+        return 1;
+    }
     show_globals(bias);
     show_pointers(bias);
     return 0;

@@ -18,6 +18,8 @@ MASK = (1 << 64) - 1
 LIMIT = 1 << 20
 ABS64, GLOB_DAT, RELATIVE = 257, 1025, 1027
 MODE, HEAP, STACK, GLOBALS, GLOBALSSZ = 0x70000009, 0x7000000B, 0x7000000C, 0x7000000D, 0x7000000F
+PAGE = 4096
+# Multiples of the largest align of every module here.
 BIASES = [0x40000000, 0, (1 << 48) - LIMIT]
 
 checks = 0
@@ -78,6 +80,10 @@ class Module:
 
     def end(self):
         return max(h[2] + h[4] for h in self.loads)
+
+    def unit(self):
+        """What the bias must be a multiple of: a page of 4,096 bytes and the largest align of a PT_LOAD."""
+        return max([PAGE] + [h[6] for h in self.loads])
 
     def offset(self, address):
         """Where the file has the byte of an address."""
@@ -214,6 +220,7 @@ MEANT = {
     "nine_hour": {"log_at": ("lines", 0), "log_end": ("lines", 128), "age_at": ("age", 0), "temperature_at": ("temperature", 0)},
     "far": {"far_before": ("table", -0x100000)},
     "asynchronous": {"level_at": ("level", 0)},
+    "aligned": {"table_at": ("table", 0), "table_end": ("table", 256), "level_at": ("level", 0)},
     "untagged": {"values_end": ("values", 16), "shared_at": ("shared_value", 0)},
     "text_pic": {"value_at": ("value", 0)},
     "empty": {}, "called_symbolic": {}, "called_hidden": {}, "globals_untagged": {}, "copy_own": {}, "unseen": {},
@@ -252,6 +259,34 @@ def check_taken(m, loader):
             expect(plane == wanted_plane, f"{what}: the tag plane differs")
             expect(memory == wanted_memory, f"{what}: memory differs")
             check_meaning(m, memory, bias, choices)
+
+
+def check_biases(m, loader):
+    """Biases that are multiples of the largest align, up to the highest, and others that are multiples of less."""
+    length, choices, unit = (m.end() + 15) // 16 * 16, choose(len(m.globals())), m.unit()
+    taken, highest = len(choices) * 256, ((1 << 48) - length) // unit * unit
+    fit = {bias for bias in (BIASES[0] // unit * unit + unit, highest) if bias <= highest}
+    for bias in sorted(fit):
+        what = f"{m.name} at {bias:#x}, a multiple of {unit:#x}"
+        answer, _, _, *made = loader.load(m.path, bias, length, length // 16, choices)
+        expect(answer == taken, f"{what}: answer {answer & 255} at {answer >> 8}")
+        expect(tuple(made) == expected(m, bias, length, choices), f"{what}: memory or plane differs")
+    misfit = {BIASES[0] + step for step in (PAGE // 2, PAGE, unit // 2) if step % unit} | {unit // 2, highest + unit}
+    for bias in sorted(misfit):
+        what = f"{m.name} at {bias:#x}, which does not fit {unit:#x}"
+        loader.refusal(what, m.path, bias, length, length // 16, choices, 12, 0, taken)
+
+
+def check_far_aligns(m, loader, scratch, readelf):
+    """The module with a far larger align of its first PT_LOAD, whose offset and address are 0. The files stay."""
+    at = 64 + 56 * first(m.headers, lambda h: h[0] == "LOAD") + 48
+    for power in (40, 63):
+        path = os.path.join(scratch, f"align_{power}.so")
+        with open(path, "wb") as out:
+            out.write(m.bytes[:at] + (1 << power).to_bytes(8, "little") + m.bytes[at + 8:])
+        edited = Module(readelf, path)
+        expect(edited.unit() == 1 << power, f"{edited.name}: the largest align is {edited.unit():#x}")
+        check_biases(edited, loader)
 
 
 def check_late_refusals(m, loader):
@@ -353,7 +388,7 @@ def main():
     loader = Loader(emulator + [os.path.join(programs, "load_file")], scratch)
     writer = Writer(emulator + [os.path.join(programs, "write_file")])
     modules = [Module(readelf, os.path.join(at, name)) for at, _, names in sorted(os.walk(folder)) for name in sorted(names) if name.endswith(".so")]
-    seen, tables = set(), 0
+    seen, units, tables = set(), set(), 0
     for m in modules:
         name = m.name.split("/")[1]
         seen.add(name)
@@ -364,14 +399,21 @@ def main():
             loader.refusal(m.name, m.path, BIASES[0], 0x80000, 0x8000, [], number, position(m))
         else:
             check_taken(m, loader)
+            check_biases(m, loader)
+            units.add(m.unit())
+        if name == "aligned":
+            expect(m.unit() == 0x20000 > m.loads[-1][6], f"{m.name}: the aligns are {[h[6] for h in m.loads]}")
         if name == "pointers":
             check_late_refusals(m, loader)
         if m.name == "4096/pointers":
             check_edits(m, loader, scratch)
         if name == "nine_hour":
             check_nine_hour(m, loader)
+        if m.name == "4096/nine_hour":
+            check_far_aligns(m, loader, scratch, readelf)
     expect(seen == set(REFUSED) | set(MEANT), f"modules missing: {sorted((set(REFUSED) | set(MEANT)) ^ seen)}")
     expect(tables > 0, "no module has a table")
+    expect(units == {4096, 16384, 65536, 0x20000}, f"largest aligns: {sorted(units)}")
     print(f"{len(modules)} modules, {tables} tables written again, {checks} checks")
 
 

@@ -3,7 +3,7 @@
 use crate::answers::{Call, Listing, Loader, Outcome, Written, RIGHT};
 use crate::generate::list::write_case;
 use crate::generate::{case, step_case};
-use crate::{faults, ffi, vectors, Step};
+use crate::{faults, ffi, load_untagged, vectors, Step, Untagged};
 
 /// The loader to compare with, by name: archive, self, or fault: and a fault's name.
 pub fn partner(name: &str) -> Result<&'static dyn Loader, String> {
@@ -20,8 +20,9 @@ pub fn partner(name: &str) -> Result<&'static dyn Loader, String> {
     }
 }
 
-/// What differs, in words; empty where nothing does.
-pub fn difference(plain: &Outcome, other: &Outcome) -> String {
+/// What differs, in words; empty where nothing does. Where the other takes the load, it is compared
+/// with the untagged loader as well.
+pub fn difference(call: &Call, plain: &Outcome, other: &Outcome) -> String {
     let mut words = Vec::new();
     let mut numbers = |what: &str, a: u64, b: u64| {
         if a != b {
@@ -33,19 +34,39 @@ pub fn difference(plain: &Outcome, other: &Outcome) -> String {
     if plain.facts != other.facts {
         words.push(format!("facts: plain {:#x}, other {:#x}", plain.facts, other.facts));
     }
-    words.extend(bytes_differ("memory", &plain.memory, &other.memory));
-    words.extend(bytes_differ("plane", &plain.plane, &other.plane));
+    words.extend(bytes_differ("memory", "plain", &plain.memory, &other.memory));
+    words.extend(bytes_differ("plane", "plain", &plain.plane, &other.plane));
     if plain.strayed || other.strayed {
         words.push("a byte beside the lent buffers was changed".to_owned());
     }
+    words.extend(untagged_difference(call, other));
     words.join("\n  ")
 }
 
-fn bytes_differ(what: &str, a: &[u8], b: &[u8]) -> Option<String> {
+/// How the bytes of the loader of a name differ from the other's.
+fn bytes_differ(what: &str, name: &str, a: &[u8], b: &[u8]) -> Option<String> {
     let count = a.iter().zip(b).filter(|(x, y)| x != y).count();
     let at = (0..a.len()).find(|&i| a[i] != b[i])?;
     let (x, y) = (a[at], b[at]);
-    Some(format!("{what}: {count} bytes, first at {at:#x}: plain {x:#04x}, other {y:#04x}"))
+    Some(format!("{what}: {count} bytes, first at {at:#x}: {name} {x:#04x}, other {y:#04x}"))
+}
+
+/// How a load that was taken differs from the untagged loader's, in words: by more than the top bytes
+/// of relocated words, which are 0 in the untagged memory.
+fn untagged_difference(call: &Call, other: &Outcome) -> Option<String> {
+    if other.number() != 0 {
+        return None;
+    }
+    match load_untagged(&call.file, call.bias, call.memory_length as u64) {
+        Err(r) => Some(format!("untagged: refused {} at {}, other taken", r.number, r.position)),
+        Ok(Untagged { memory, places }) => {
+            let mut bare = other.memory.clone();
+            for place in places {
+                bare[place + 7] = 0;
+            }
+            bytes_differ("memory but for tags", "untagged", &memory, &bare)
+        }
+    }
 }
 
 /// What differs between two table writes, in words; empty where nothing does.
@@ -54,7 +75,7 @@ pub fn write_difference(plain: &Written, other: &Written) -> String {
     if plain.answer != other.answer {
         words.push(format!("answer: plain {}, other {}", plain.answer, other.answer));
     }
-    words.extend(bytes_differ("buffer", &plain.buffer, &other.buffer));
+    words.extend(bytes_differ("buffer", "plain", &plain.buffer, &other.buffer));
     if plain.strayed || other.strayed {
         words.push("a byte beside the lent buffer was changed".to_owned());
     }
@@ -139,8 +160,8 @@ struct Run<'a> {
 
 impl Run<'_> {
     fn call(&mut self, name: &str, call: &Call) {
-        let plain = RIGHT.outcome(call);
-        let words = difference(&plain, &self.other.outcome(call));
+        let (plain, other) = (RIGHT.outcome(call), self.other.outcome(call));
+        let words = difference(call, &plain, &other);
         self.counts.answers[usize::from(plain.number())] += 1;
         self.counts.calls += 1;
         if words.is_empty() {
@@ -149,7 +170,7 @@ impl Run<'_> {
         let path = format!("{}.{}", self.settings.dump, self.counts.different);
         self.counts.different += 1;
         println!("different: {name}\n  {words}");
-        println!("  answers: plain {}, other {}", plain.load, self.other.outcome(call).load);
+        println!("  answers: plain {}, other {}", plain.load, other.load);
         match std::fs::write(&path, &call.file) {
             Ok(()) => println!("  {}", replay_line(call, &path, &self.settings.against)),
             Err(e) => println!("  {path}: {e}"),
@@ -198,9 +219,11 @@ impl Run<'_> {
 pub fn run(settings: &Settings) -> Result<Counts, String> {
     let other = partner(&settings.against)?;
     let mut run = Run { settings, other, counts: Counts::default() };
-    for (i, v) in vectors::loads().iter().enumerate() {
-        if !run.full() {
-            run.call(&format!("vector {i}, {}", v.name), &v.call);
+    for set in vectors::LOADS {
+        for (i, v) in vectors::loads(set).iter().enumerate() {
+            if !run.full() {
+                run.call(&format!("vector {i} of {set}, {}", v.name), &v.call);
+            }
         }
     }
     for (i, v) in vectors::steps().iter().enumerate() {

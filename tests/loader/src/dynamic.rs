@@ -2,7 +2,7 @@
 
 use crate::bytes::u64_at;
 use crate::headers::{headers, Header, Segments, PT_DYNAMIC};
-use crate::rules::Rules;
+use crate::rules::{Right, Rules};
 use crate::{refusal, Mode, Refusal, Switch};
 
 const ENTRY: usize = 16;
@@ -28,6 +28,7 @@ const STACK: usize = 7;
 const GLOBALS: usize = 8;
 const GLOBALSSZ: usize = 9;
 
+/// The memtag tags are the last five.
 const KNOWN: [Known; 10] = [
     known(6, 0, |_| true),
     known(11, 0, |v| v == 24),
@@ -84,8 +85,8 @@ fn section<'a, R: Rules>(
     good::<R>(&header, file, segments).ok_or(refusal(5, index))
 }
 
-/// Check 6.
-fn values<R: Rules>(entries: &[u8]) -> Result<Values, Refusal> {
+/// Check 6, where some of the tags are known.
+fn values<R: Rules>(entries: &[u8], all: &[Known]) -> Result<Values, Refusal> {
     let mut values = Values::default();
     let mut null = None;
     for (index, entry) in (0..).zip(entries.chunks_exact(ENTRY)) {
@@ -100,8 +101,8 @@ fn values<R: Rules>(entries: &[u8]) -> Result<Values, Refusal> {
         if REFUSED.contains(&tag) {
             return Err(refusal(6, index));
         }
-        if let Some(k) = KNOWN.iter().position(|known| known.tag == tag) {
-            if values[k].is_some() || !(KNOWN[k].allowed)(value) {
+        if let Some(k) = all.iter().position(|known| known.tag == tag) {
+            if values[k].is_some() || !(all[k].allowed)(value) {
                 return Err(refusal(6, index));
             }
             values[k] = Some(value);
@@ -113,11 +114,11 @@ fn values<R: Rules>(entries: &[u8]) -> Result<Values, Refusal> {
         }
     }
     let lone = |k: usize| {
-        let partner = |j: usize| KNOWN[j].group == KNOWN[k].group && values[j].is_none();
-        values[k].is_some() && (0..KNOWN.len()).any(partner)
+        let partner = |j: usize| all[j].group == all[k].group && values[j].is_none();
+        values[k].is_some() && (0..all.len()).any(partner)
     };
     match null {
-        Some(index) if R::PARTNERS && (0..KNOWN.len()).any(lone) => Err(refusal(6, index)),
+        Some(index) if R::PARTNERS && (0..all.len()).any(lone) => Err(refusal(6, index)),
         _ => Ok(values),
     }
 }
@@ -144,6 +145,28 @@ fn switch(value: Option<u64>) -> Switch {
     }
 }
 
+/// Check 7 of the relocation table.
+fn relocations<'a, R: Rules>(
+    file: &'a [u8],
+    segments: &Segments,
+    values: &Values,
+) -> Result<&'a [u8], Refusal> {
+    table::<R>(file, segments, values[RELA], values[RELASZ])
+        .filter(|table| table.len() as u64 / RELA_BYTES <= R::MOST_RELOCATIONS as u64)
+        .ok_or(refusal(7, 0))
+}
+
+/// Checks 5 to 7 where the memtag tags are unknown: the symbol table's address, the relocations.
+pub fn untagged<'a>(
+    file: &'a [u8],
+    headers: &[u8],
+    segments: &Segments,
+) -> Result<(Option<u64>, &'a [u8]), Refusal> {
+    let entries = section::<Right>(file, headers, segments)?;
+    let values = values::<Right>(entries, &KNOWN[..MODE])?;
+    Ok((values[SYMTAB], relocations::<Right>(file, segments, &values)?))
+}
+
 /// Checks 5 to 7.
 pub fn dynamic<'a, R: Rules>(
     file: &'a [u8],
@@ -151,10 +174,8 @@ pub fn dynamic<'a, R: Rules>(
     segments: &Segments,
 ) -> Result<Dynamic<'a>, Refusal> {
     let entries = section::<R>(file, headers, segments)?;
-    let values = values::<R>(entries)?;
-    let relocations = table::<R>(file, segments, values[RELA], values[RELASZ])
-        .filter(|table| table.len() as u64 / RELA_BYTES <= R::MOST_RELOCATIONS as u64)
-        .ok_or(refusal(7, 0))?;
+    let values = values::<R>(entries, &KNOWN)?;
+    let relocations = relocations::<R>(file, segments, &values)?;
     let descriptors =
         table::<R>(file, segments, values[GLOBALS], values[GLOBALSSZ]).ok_or(refusal(7, 1))?;
     Ok(Dynamic {

@@ -2,9 +2,9 @@
 //! each of them from the right one.
 
 use crate::answers::{Loader, Under};
-use crate::headers::Segment;
+use crate::headers::{Segment, PT_DYNAMIC, PT_LOAD};
 use crate::rules::Rules;
-use crate::ADDRESS_END;
+use crate::{ADDRESS_END, PAGE};
 
 pub struct Fault {
     pub name: &'static str,
@@ -14,6 +14,11 @@ pub struct Fault {
 /// The fault of a name, among all of them.
 pub fn named(name: &str) -> Option<&'static Fault> {
     FAULTS.iter().chain(WRITER_FAULTS).find(|fault| fault.name == name)
+}
+
+/// A bias by 4,096 and one align.
+fn bias_by(align: Option<u64>, bias: u64) -> bool {
+    bias.is_multiple_of(PAGE) && bias.is_multiple_of(align.unwrap_or(0).max(1))
 }
 
 /// Defines each fault as the rules with the given items put in, and lists them all.
@@ -289,6 +294,86 @@ faults! {
     MemoryShort "memory may end a granule early" {
         fn memory_reaches(length: u64, end: u64) -> bool {
             length + 16 >= end
+        }
+    }
+    BiasPage "the bias by 4,096 alone" {
+        fn bias_fits(_: impl DoubleEndedIterator<Item = u64>, bias: u64) -> bool {
+            bias.is_multiple_of(PAGE)
+        }
+    }
+    BiasAlign "the bias by the largest align alone" {
+        fn bias_fits(aligns: impl DoubleEndedIterator<Item = u64>, bias: u64) -> bool {
+            bias.is_multiple_of(aligns.fold(1, u64::max))
+        }
+    }
+    BiasFirst "the bias by the first align" {
+        fn bias_fits(mut aligns: impl DoubleEndedIterator<Item = u64>, bias: u64) -> bool {
+            bias_by(aligns.next(), bias)
+        }
+    }
+    BiasLast "the bias by the last align" {
+        fn bias_fits(mut aligns: impl DoubleEndedIterator<Item = u64>, bias: u64) -> bool {
+            bias_by(aligns.next_back(), bias)
+        }
+    }
+    BiasSmallest "the bias by the smallest align" {
+        fn bias_fits(aligns: impl DoubleEndedIterator<Item = u64>, bias: u64) -> bool {
+            bias_by(aligns.min(), bias)
+        }
+    }
+    BiasHalf "the bias by half the largest align" {
+        fn bias_fits(aligns: impl DoubleEndedIterator<Item = u64>, bias: u64) -> bool {
+            bias_by(aligns.max().map(|align| align / 2), bias)
+        }
+    }
+    BiasTwice "the bias by twice the largest align" {
+        fn bias_fits(aligns: impl DoubleEndedIterator<Item = u64>, bias: u64) -> bool {
+            bias_by(aligns.max().map(|align| align.saturating_mul(2)), bias)
+        }
+    }
+    BiasSixteen "the bias by an align of at most 16 KiB" {
+        fn bias_fits(aligns: impl DoubleEndedIterator<Item = u64>, bias: u64) -> bool {
+            bias_by(aligns.max().map(|align| align.min(16_384)), bias)
+        }
+    }
+    BiasSmall "aligns above 65,536 are passed over" {
+        fn bias_fits(aligns: impl DoubleEndedIterator<Item = u64>, bias: u64) -> bool {
+            bias_by(aligns.filter(|&align| align <= 65_536).max(), bias)
+        }
+    }
+    BiasShort "aligns of 32 bits" {
+        fn bias_fits(aligns: impl DoubleEndedIterator<Item = u64>, bias: u64) -> bool {
+            bias_by(aligns.map(|align| align & 0xffff_ffff).max(), bias)
+        }
+    }
+    BiasFar "aligns above 2^48 are passed over" {
+        fn bias_fits(aligns: impl DoubleEndedIterator<Item = u64>, bias: u64) -> bool {
+            bias_by(aligns.filter(|&align| align <= ADDRESS_END).max(), bias)
+        }
+    }
+    BiasNear "an align above 2^48 is refused at every bias" {
+        fn bias_fits(mut aligns: impl DoubleEndedIterator<Item = u64>, bias: u64) -> bool {
+            aligns.all(|align| align <= ADDRESS_END && bias_by(Some(align), bias))
+        }
+    }
+    BiasZero "an align of 0 leaves bias 0 alone" {
+        fn bias_fits(mut aligns: impl DoubleEndedIterator<Item = u64>, bias: u64) -> bool {
+            bias.is_multiple_of(PAGE) && aligns.all(|align| bias.is_multiple_of(align))
+        }
+    }
+    BiasSum "the bias by the sum of all aligns" {
+        fn bias_fits(aligns: impl DoubleEndedIterator<Item = u64>, bias: u64) -> bool {
+            bias_by(Some(aligns.fold(0, u64::wrapping_add)), bias)
+        }
+    }
+    AnyHeader "aligns of other headers count" {
+        fn align_counts(_: u32) -> bool {
+            true
+        }
+    }
+    DynamicAlign "PT_DYNAMIC's align counts" {
+        fn align_counts(kind: u32) -> bool {
+            [PT_LOAD, PT_DYNAMIC].contains(&kind)
         }
     }
     RunBelow "run-time addresses end below 2^48" {

@@ -9,7 +9,7 @@ const DYN: u16 = 3;
 const AARCH64: u16 = 183;
 pub const HEADER_BYTES: usize = 56;
 const MOST_HEADERS: usize = 16;
-const PT_LOAD: u32 = 1;
+pub const PT_LOAD: u32 = 1;
 pub const PT_DYNAMIC: u32 = 2;
 const WRITABLE: u32 = 2;
 
@@ -79,6 +79,14 @@ impl Segments {
         self.all().last().map_or(0, Segment::end)
     }
 
+    /// Puts each segment's bytes from its own address onward.
+    pub fn place(&self, file: &[u8], memory: &mut [u8]) {
+        for segment in self.all() {
+            let bytes = segment.contents(file);
+            memory[segment.address as usize..][..bytes.len()].copy_from_slice(bytes);
+        }
+    }
+
     /// The file's bytes for a range of addresses that is wholly inside one file part.
     pub fn backed<'a, R: Rules>(
         &self,
@@ -122,6 +130,12 @@ pub fn header_table<R: Rules>(file: &[u8]) -> Result<&[u8], Refusal> {
 
 pub fn headers(table: &[u8]) -> impl Iterator<Item = (u64, Header)> + '_ {
     (0..).zip(table.chunks_exact(HEADER_BYTES).map(Header::read))
+}
+
+/// The aligns that check 12 asks of the bias, in table order.
+pub fn aligns<R: Rules>(table: &[u8]) -> impl DoubleEndedIterator<Item = u64> + '_ {
+    let all = table.chunks_exact(HEADER_BYTES).map(Header::read);
+    all.filter(|header| R::align_counts(header.kind)).map(|header| header.align)
 }
 
 fn good_load<R: Rules>(header: &Header, end_before: u64, length: u64) -> bool {

@@ -17,11 +17,13 @@ mod load;
 pub mod random;
 mod relocations;
 pub mod rules;
+mod untagged;
 pub mod vectors;
 pub mod writer;
 
 pub use descriptors::{step_by, Step};
 pub use load::{examine_by, load_by};
+pub use untagged::{load_untagged, Untagged};
 pub use writer::write_table_by;
 
 use rules::Right;
@@ -30,6 +32,8 @@ use rules::Right;
 pub const LARGEST: u64 = 1_048_576;
 /// Most relocations, and most descriptors.
 pub const MOST: usize = 1_024;
+/// Bytes of the smallest page: every bias is a multiple of it.
+pub const PAGE: u64 = 4_096;
 /// Bytes of a granule.
 pub const GRANULE: u64 = 16;
 /// End of the addresses that a pointer can hold below its top bits.

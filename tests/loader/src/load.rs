@@ -2,7 +2,7 @@
 
 use crate::bytes::u64_at;
 use crate::dynamic::{dynamic, Dynamic};
-use crate::headers::{header_table, segments, Segments};
+use crate::headers::{aligns, header_table, segments, Segments};
 use crate::relocations::{address, source, target_of, Tables, Target, ENTRY};
 use crate::rules::Rules;
 use crate::{descriptors, refusal, Facts, Refusal, GRANULE, LARGEST};
@@ -10,6 +10,7 @@ use crate::{descriptors, refusal, Facts, Refusal, GRANULE, LARGEST};
 /// A file that has passed checks 1 to 11.
 struct Image<'a> {
     file: &'a [u8],
+    headers: &'a [u8],
     segments: Segments,
     dynamic: Dynamic<'a>,
     globals: u64,
@@ -18,11 +19,11 @@ struct Image<'a> {
 
 impl<'a> Image<'a> {
     fn read<R: Rules>(file: &'a [u8]) -> Result<Image<'a>, Refusal> {
-        let table = header_table::<R>(file)?;
-        let segments = segments::<R>(file, table)?;
-        let dynamic = dynamic::<R>(file, table, &segments)?;
+        let headers = header_table::<R>(file)?;
+        let segments = segments::<R>(file, headers)?;
+        let dynamic = dynamic::<R>(file, headers, &segments)?;
         let globals = descriptors::count::<R>(dynamic.descriptors, &segments)?;
-        let mut image = Image { file, segments, dynamic, globals, words: 0 };
+        let mut image = Image { file, headers, segments, dynamic, globals, words: 0 };
         image.words = image.tables().check::<R>()?;
         Ok(image)
     }
@@ -48,13 +49,7 @@ impl<'a> Image<'a> {
 
     /// Check 12.
     fn check_fit<R: Rules>(&self, bias: u64, memory: u64, plane: u64) -> Result<(), Refusal> {
-        let good = memory.is_multiple_of(GRANULE)
-            && R::memory_reaches(memory, self.segments.end())
-            && memory <= LARGEST
-            && plane == memory / GRANULE
-            && bias.is_multiple_of(4096)
-            && R::run_fits(bias, memory);
-        if good {
+        if lent_fits::<R>(self.headers, &self.segments, bias, memory) && plane == memory / GRANULE {
             Ok(())
         } else {
             Err(refusal(12, 0))
@@ -84,10 +79,7 @@ impl<'a> Image<'a> {
         if R::CLEARS_MEMORY {
             memory.fill(0);
         }
-        for segment in self.segments.all() {
-            let bytes = segment.contents(self.file);
-            memory[segment.address as usize..][..bytes.len()].copy_from_slice(bytes);
-        }
+        self.segments.place(self.file, memory);
     }
 
     /// Each global's choice over its granules, 0 elsewhere.
@@ -119,6 +111,15 @@ impl<'a> Image<'a> {
             memory[place..place + 8].copy_from_slice(&word.to_le_bytes());
         }
     }
+}
+
+/// Check 12 of bias and memory length.
+pub fn lent_fits<R: Rules>(headers: &[u8], segments: &Segments, bias: u64, memory: u64) -> bool {
+    memory.is_multiple_of(GRANULE)
+        && R::memory_reaches(memory, segments.end())
+        && memory <= LARGEST
+        && R::bias_fits(aligns::<R>(headers), bias)
+        && R::run_fits(bias, memory)
 }
 
 /// The tag of a source's granule, 0 outside the lent memory's run of addresses.

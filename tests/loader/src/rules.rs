@@ -1,8 +1,8 @@
 //! The single rules of the loader and of the writer that the seeded faults change. The defaults are
 //! the right ones; a fault overrides one of them.
 
-use crate::headers::Segment;
-use crate::{ADDRESS_END, GRANULE, LARGEST, MOST};
+use crate::headers::{Segment, PT_LOAD};
+use crate::{ADDRESS_END, GRANULE, LARGEST, MOST, PAGE};
 
 pub trait Rules {
     /// 1: lengths that a file may have.
@@ -121,6 +121,17 @@ pub trait Rules {
     /// 12: memory length against the end of the last PT_LOAD.
     fn memory_reaches(length: u64, end: u64) -> bool {
         length >= end
+    }
+
+    /// 12: the headers whose align counts are the PT_LOADs.
+    fn align_counts(kind: u32) -> bool {
+        kind == PT_LOAD
+    }
+
+    /// 12: the bias is a multiple of 4,096 and of the largest align; 0 counts as 1.
+    fn bias_fits(aligns: impl DoubleEndedIterator<Item = u64>, bias: u64) -> bool {
+        let largest = aligns.fold(1, u64::max);
+        bias.is_multiple_of(PAGE) && bias.is_multiple_of(largest)
     }
 
     /// 12: run-time addresses end at 2^48.

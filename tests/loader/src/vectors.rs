@@ -4,7 +4,7 @@ use crate::answers::{Call, Listing, Outcome, StepAnswer, Written};
 use crate::bytes::{u32_at, u64_at};
 use crate::compare::hex;
 use crate::crc::crc32;
-use crate::{Facts, Mode, Refusal, Step, Switch};
+use crate::{Facts, Mode, Refusal, Step, Switch, Untagged};
 use std::path::PathBuf;
 
 pub struct LoadVector {
@@ -64,10 +64,15 @@ impl<'a> Records<'a> {
     }
 }
 
-pub fn loads() -> Vec<LoadVector> {
-    let bytes = read("load.cases");
+/// The sets of loads.
+pub const LOADS: [&str; 2] = ["load", LEVEL_2];
+const LEVEL_2: &str = "level-02/load";
+
+pub fn loads(set: &str) -> Vec<LoadVector> {
+    let bytes = read(&format!("{set}.cases"));
     let mut records = Records(&bytes);
-    let named = lines("load.names").into_iter().zip(lines("load.answers"));
+    let names = lines(&format!("{set}.names"));
+    let named = names.into_iter().zip(lines(&format!("{set}.answers")));
     let vectors = named
         .map(|(name, answer)| {
             let call = Call {
@@ -83,6 +88,14 @@ pub fn loads() -> Vec<LoadVector> {
         .collect();
     assert!(records.0.is_empty());
     vectors
+}
+
+/// The loads that the untagged loader has answers for, with these in place of the loads'.
+pub fn untagged_loads() -> Vec<LoadVector> {
+    let answers = lines("level-02/plain.answers");
+    let loads = loads(LEVEL_2);
+    assert_eq!(loads.len(), answers.len());
+    loads.into_iter().zip(answers).map(|(load, answer)| LoadVector { answer, ..load }).collect()
 }
 
 pub fn steps() -> Vec<StepVector> {
@@ -145,6 +158,14 @@ pub fn load_line(outcome: &Outcome, examined: &Result<Facts, Refusal>) -> String
         crc32(&outcome.plane),
         outcome.examine,
     )
+}
+
+/// The line of plain.answers for the untagged loader.
+pub fn untagged_line(answer: &Result<Untagged, Refusal>) -> String {
+    match answer {
+        Ok(untagged) => format!("0 {:08x}", crc32(&untagged.memory)),
+        Err(r) => format!("{} -", r.position * 256 + u64::from(r.number)),
+    }
 }
 
 /// The line of descriptors.answers for a step.

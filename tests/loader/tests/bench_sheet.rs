@@ -1,7 +1,8 @@
-//! The bench sheet of document 01, and its table written.
+//! The bench sheet of document 01 with what request 2 adds, and its table written.
 
 use loader::answers::{packed_facts, Call};
-use loader::{examine, load, step, write_table, Facts, Mode, Refusal, Step, Switch};
+use loader::{examine, load, load_untagged, step, write_table};
+use loader::{Facts, Mode, Refusal, Step, Switch};
 
 const BIAS: u64 = 0x4000_0000;
 const TABLE: [u8; 5] = [0x82, 0x10, 0x10, 0x07, 0x01];
@@ -149,6 +150,32 @@ fn words() {
     let top = (1 << 48) - 1;
     assert_eq!(word(&call(BIAS, &TAGS, top - BIAS as i64, 0)), Ok(top as u64));
     assert_eq!(word(&call(BIAS, &TAGS, top - BIAS as i64 + 1, 0)), refused(13, 0));
+}
+
+/// The call with another align of the PT_LOAD: offset and address are 0, so any power of two is good.
+fn aligned(align: u64, bias: u64) -> Call {
+    let mut call = call(bias, &TAGS, 0x10c0, 0);
+    put(&mut call.file, 64 + 48, &[align]);
+    call
+}
+
+#[test]
+fn aligns() {
+    assert_eq!(word(&aligned(16_384, 4_096)), refused(12, 0));
+    assert_eq!(word(&aligned(16_384, 16_384)), Ok(0x0500_0000_0000_50c0));
+    let powers = (0..64).map(|i| 1u64 << i);
+    for align in std::iter::once(0).chain(powers) {
+        for bias in std::iter::once(0).chain((0..47).flat_map(|i| [1 << i, 3 << i])) {
+            let call = aligned(align, bias);
+            let fits = bias % 4_096 == 0 && bias % align.max(1) == 0;
+            let expected = if fits { Ok(bias + 0x10c0 + (5 << 56)) } else { refused(12, 0) };
+            assert_eq!(word(&call), expected, "align {align:#x}, bias {bias:#x}");
+            let untagged = load_untagged(&call.file, bias, call.memory_length as u64);
+            let bare = untagged.map(|u| u.memory[PLACE as usize..][..8].to_vec());
+            let expected = expected.map(|word| (word << 8 >> 8).to_le_bytes().to_vec());
+            assert_eq!(bare, expected, "untagged: align {align:#x}, bias {bias:#x}");
+        }
+    }
 }
 
 #[test]

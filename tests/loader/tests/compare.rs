@@ -15,7 +15,7 @@ fn run(program: &str, words: &[&str]) -> (Option<i32>, String) {
 fn equal_loaders_are_equal() {
     let (code, text) = run(COMPARE, &["--against", "self", "--cases", "2000"]);
     assert_eq!(code, Some(0), "{text}");
-    assert!(text.contains("2700 calls, 2400 descriptor steps, 2346 table writes"), "{text}");
+    assert!(text.contains("2962 calls, 2400 descriptor steps, 2346 table writes"), "{text}");
     assert!(text.contains("different: 0"), "{text}");
 }
 
@@ -41,6 +41,20 @@ fn a_difference_is_shown_and_replayed() {
     assert!(shown.contains("memory: "), "{shown}");
     *again.last_mut().unwrap() = "self";
     assert_eq!(run(COMPARE, &again).0, Some(0));
+}
+
+#[test]
+fn the_untagged_loader_is_compared() {
+    let shown = |fault, line| {
+        let against = format!("fault:{fault}");
+        let dump = PathBuf::from(env!("CARGO_TARGET_TMPDIR")).join("untagged");
+        let words = ["--against", &against, "--cases", "0", "--stop", "1", "--dump"];
+        let (code, text) = run(COMPARE, &[&words[..], &[dump.to_str().unwrap()]].concat());
+        assert_eq!(code, Some(1), "{text}");
+        assert!(text.contains(line), "{text}");
+    };
+    shown("the bias by 4,096 alone", "\n  untagged: refused 12 at 0, other taken\n");
+    shown("symbols read from relocated memory", "\n  memory but for tags: 6 bytes, first at ");
 }
 
 #[test]

@@ -44,7 +44,7 @@ impl Caught {
 
 #[test]
 fn each_is_caught() {
-    let total = count(10_000);
+    let total = count(11_000);
     let (mut loads, mut writes) = (Caught::new(FAULTS), Caught::new(WRITER_FAULTS));
     std::panic::set_hook(Box::new(|_| {}));
     for (i, case) in cases(SEED, total).enumerate() {

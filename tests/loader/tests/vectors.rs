@@ -1,14 +1,27 @@
 //! The Rust loader gives every answer of the outside vectors.
 
-use loader::answers::{Loader, RIGHT};
-use loader::{examine, step, vectors};
+use loader::answers::{Call, Loader, RIGHT};
+use loader::{examine, load_untagged, step, vectors};
 
 #[test]
 fn loads() {
-    let vectors = vectors::loads();
-    assert_eq!(vectors.len(), 700);
+    for (set, count) in vectors::LOADS.into_iter().zip([700, 262]) {
+        let vectors = vectors::loads(set);
+        assert_eq!(vectors.len(), count);
+        for (i, v) in vectors.iter().enumerate() {
+            let line = vectors::load_line(&RIGHT.outcome(&v.call), &examine(&v.call.file));
+            assert_eq!(line, v.answer, "{set}: case {i}, {}", v.name);
+        }
+    }
+}
+
+#[test]
+fn untagged_loads() {
+    let vectors = vectors::untagged_loads();
+    assert_eq!(vectors.len(), 262);
     for (i, v) in vectors.iter().enumerate() {
-        let line = vectors::load_line(&RIGHT.outcome(&v.call), &examine(&v.call.file));
+        let Call { file, bias, memory_length, .. } = &v.call;
+        let line = vectors::untagged_line(&load_untagged(file, *bias, *memory_length as u64));
         assert_eq!(line, v.answer, "case {i}, {}", v.name);
     }
 }

@@ -10,6 +10,7 @@
 #include "hagolstan.h"
 
 #define LENGTH 0x80000
+#define ALIGN 0x10000    /* the largest align of a module that is run */
 #define MTE 0x20         /* PROT_MTE */
 #define TAG_FAULT 9      /* SEGV_MTESERR */
 #define TAGGING 55       /* PR_SET_TAGGED_ADDR_CTRL */
@@ -54,11 +55,12 @@ int main(int count, char **words)
     size_t length = fread(file, 1, sizeof file, in);
     fclose(in);
 
-    uint8_t *memory = mmap(NULL, LENGTH, PROT_READ | PROT_WRITE | PROT_EXEC | MTE, MAP_PRIVATE | MAP_ANONYMOUS, -1, 0);
-    if (memory == MAP_FAILED || prctl(TAGGING, SYNCHRONOUS, 0, 0, 0) != 0) {
+    uint8_t *room = mmap(NULL, LENGTH + ALIGN, PROT_READ | PROT_WRITE | PROT_EXEC | MTE, MAP_PRIVATE | MAP_ANONYMOUS, -1, 0);
+    if (room == MAP_FAILED || prctl(TAGGING, SYNCHRONOUS, 0, 0, 0) != 0) {
         printf("no memory tagging here\n");
         return 77;
     }
+    uint8_t *memory = room + (ALIGN - (uintptr_t)room % ALIGN) % ALIGN;
     uintptr_t bias = (uintptr_t)memory;
     size_t globals = HAGOLSTAN_GLOBALS(hagolstan_facts(file, length));
     for (size_t i = 0; i < globals; i++)

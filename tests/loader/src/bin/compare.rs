@@ -45,7 +45,7 @@ fn replay(path: &str, words: &[String]) -> Result<bool, String> {
     let other = partner(against)?.outcome(&call);
     let plain = RIGHT.outcome(&call);
     println!("answers: plain {}, other {}", plain.load, other.load);
-    let words = difference(&plain, &other);
+    let words = difference(&call, &plain, &other);
     println!(
         "{}",
         if words.is_empty() { "equal".to_owned() } else { format!("different\n  {words}") }
@@ -58,7 +58,7 @@ fn whole(words: &[String]) -> Result<bool, String> {
         against: "archive".to_owned(),
         seed: SEED,
         first: 0,
-        cases: count(20_000),
+        cases: count(22_000),
         dump: "different".to_owned(),
         stop: 5,
     };

@@ -3,7 +3,7 @@
 
 use super::module::*;
 use crate::random::Random;
-use crate::{ADDRESS_END, LARGEST};
+use crate::{ADDRESS_END, LARGEST, PAGE};
 
 #[derive(Clone, Copy, Debug, PartialEq, Eq)]
 pub enum Expected {
@@ -77,6 +77,11 @@ fn bad_spare(m: &mut Module, change: fn(&mut Header, u64, u64)) -> Option<Expect
     let end_before = m.headers[*used.last()?].end();
     change(&mut m.headers[i], length, end_before);
     refused(4, i)
+}
+
+/// The largest align that a header's offset and address agree by.
+fn agreed(header: &Header) -> u64 {
+    1 << header.offset.wrapping_sub(header.address).trailing_zeros().min(63)
 }
 
 // Row 5.
@@ -242,6 +247,52 @@ fn free_place(m: &mut Module, r: &mut Random, place: u64) -> Option<Expected> {
 
 fn any_load(m: &Module, r: &mut Random) -> Option<Header> {
     Some(m.headers[one(r, &m.loads())?].clone())
+}
+
+// Row 12.
+
+/// A multiple of a power of two and of no larger one, with room for the memory below 2^48.
+fn multiple(m: &Module, r: &mut Random, power: u64) -> Option<u64> {
+    let most = (ADDRESS_END - m.memory) / power;
+    given(most > 0)?;
+    let odd = 1 + 2 * r.below(most.div_ceil(2));
+    Some(power * if r.once_in(2) { odd } else { odd.min(1 + 2 * r.below(3)) })
+}
+
+/// A bias that is a multiple of 4,096 and of an align, but not of the largest.
+fn misfit(m: &mut Module, r: &mut Random, align: u64) -> Option<Expected> {
+    let power = align.max(PAGE);
+    given(power < m.largest_align())?;
+    m.bias = multiple(m, r, power)?;
+    Some(FIT)
+}
+
+/// A bias that is a multiple of what it must be and of no larger power.
+fn fit(m: &mut Module, r: &mut Random) -> Option<Expected> {
+    let bias = multiple(m, r, m.bias_unit())?;
+    m.rebias(bias)?;
+    Some(Taken)
+}
+
+/// An align for a load whose offset and address agree by any.
+fn raise(m: &mut Module, r: &mut Random, align: u64) -> Option<()> {
+    let level = |i: &usize| m.headers[*i].offset == m.headers[*i].address;
+    let all: Vec<usize> = m.loads().into_iter().filter(level).collect();
+    m.headers[one(r, &all)?].align = align;
+    Some(())
+}
+
+fn highest_bias(m: &Module) -> u64 {
+    (ADDRESS_END - m.memory) / m.bias_unit() * m.bias_unit()
+}
+
+/// The length of a memory whose bias fits where it ends at 2^48.
+fn high_memory(m: &Module, r: &mut Random) -> Option<u64> {
+    let unit = m.bias_unit();
+    given(unit <= LARGEST)?;
+    let memory = (m.last_end().div_ceil(unit) + r.below(3)) * unit;
+    given(memory < LARGEST)?;
+    Some(memory)
 }
 
 // Row 13.
@@ -464,8 +515,8 @@ pub const DAMAGES: &[Damage] = &[
     damage(4, "align agrees", |m, r| {
         let i = one(r, &m.loads())?;
         let h = &mut m.headers[i];
-        let zeros = h.offset.wrapping_sub(h.address).trailing_zeros();
-        h.align = 1u64 << zeros.min(63);
+        h.align = agreed(h);
+        given(m.bias_fits())?;
         Some(Taken)
     }),
     damage(4, "align one bit too far", |m, r| {
@@ -481,6 +532,7 @@ pub const DAMAGES: &[Damage] = &[
         let h = &mut m.headers[i];
         h.align = 1 << 63;
         if h.offset == h.address {
+            given(m.bias_fits())?;
             Some(Taken)
         } else {
             refused(4, i)
@@ -979,25 +1031,88 @@ pub const DAMAGES: &[Damage] = &[
         Some(FIT)
     }),
     damage(12, "bias ends past 2^48", |m, r| {
-        let pages = m.last_end().div_ceil(4096) + r.below(3);
-        m.bias = ADDRESS_END - pages * 4096;
-        sized(m, pages * 4096 + 16, FIT)
+        let memory = high_memory(m, r)?;
+        m.bias = ADDRESS_END - memory;
+        sized(m, memory + 16, FIT)
     }),
     damage(12, "bias ends at 2^48", |m, r| {
-        let pages = m.last_end().div_ceil(4096) + r.below(3);
-        m.bias = ADDRESS_END - pages * 4096;
+        let memory = high_memory(m, r)?;
+        m.bias = ADDRESS_END - memory;
         for e in &mut m.relocations {
             if e.kind == RELATIVE {
-                e.addend = e.addend.rem_euclid(pages as i64 * 4096);
+                e.addend = e.addend.rem_euclid(memory as i64);
             }
         }
-        sized(m, pages * 4096, Unknown)
+        sized(m, memory, Unknown)
     }),
     damage(12, "bias wraps", |m, r| {
         let pages = m.memory.div_ceil(4096);
         m.bias =
             r.pick(&[0u64.wrapping_sub(4096), 0u64.wrapping_sub(pages * 4096), 1 << 63, 1 << 48]);
         Some(FIT)
+    }),
+    damage(12, "bias by the largest align", |m, r| {
+        given(m.largest_align() > PAGE)?;
+        fit(m, r)
+    }),
+    damage(12, "bias by half the largest align", |m, r| misfit(m, r, m.largest_align() / 2)),
+    damage(12, "bias by 4,096 alone", |m, r| misfit(m, r, PAGE)),
+    damage(12, "bias by the first align", |m, r| {
+        let first = *m.loads().first()?;
+        misfit(m, r, m.headers[first].align)
+    }),
+    damage(12, "bias by the last align", |m, r| {
+        let last = *m.loads().last()?;
+        misfit(m, r, m.headers[last].align)
+    }),
+    damage(12, "bias by another align", |m, r| {
+        let i = one(r, &m.loads())?;
+        given(m.headers[i].align > PAGE)?;
+        misfit(m, r, m.headers[i].align)
+    }),
+    damage(12, "bias by an align below 4,096", |m, r| {
+        given(m.largest_align() < PAGE)?;
+        m.bias = multiple(m, r, m.largest_align())?;
+        Some(FIT)
+    }),
+    damage(12, "the highest bias that fits", |m, _| {
+        m.rebias(highest_bias(m))?;
+        Some(Taken)
+    }),
+    damage(12, "the next after the highest", |m, _| {
+        m.bias = highest_bias(m).checked_add(m.bias_unit())?;
+        Some(FIT)
+    }),
+    damage(12, "an align raised past the bias", |m, r| {
+        let i = one(r, &m.loads())?;
+        m.headers[i].align = agreed(&m.headers[i]);
+        given(!m.bias_fits())?;
+        Some(FIT)
+    }),
+    damage(12, "an align above 2^48 and bias 0", |m, r| {
+        let align = 1 << r.from(49, 63);
+        raise(m, r, align)?;
+        m.rebias(0)?;
+        Some(Taken)
+    }),
+    damage(12, "an align above 2^48 and another bias", |m, r| {
+        let align = 1 << r.from(49, 63);
+        raise(m, r, align)?;
+        m.bias = 1 << r.from(12, 47);
+        Some(FIT)
+    }),
+    damage(12, "a larger align of another header", |m, r| {
+        let others: Vec<usize> =
+            (0..m.headers.len()).filter(|&i| m.headers[i].kind != LOAD).collect();
+        let i = one(r, &others)?;
+        m.headers[i].align = m.bias_unit().checked_mul(1 << r.from(1, 15))?;
+        fit(m, r)
+    }),
+    damage(12, "aligns of 0", |m, r| {
+        for i in m.loads() {
+            m.headers[i].align = 0;
+        }
+        fit(m, r)
     }),
     damage(13, "address -1", |m, r| missed(m, r, -1)),
     damage(13, "address 0", |m, r| met(m, r, 0)),

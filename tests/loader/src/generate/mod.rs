@@ -154,9 +154,11 @@ fn blind(r: &mut Random) -> Case {
             "truncated"
         }
         5 => {
-            call.bias = match r.below(4) {
+            call.bias = match r.below(8) {
                 0 => r.edge(),
                 1 => r.edge() & !4095,
+                2 => 1 << r.from(11, 48),
+                3 => call.bias ^ 1 << r.from(12, 20),
                 _ => call.bias,
             };
             if r.once_in(3) {

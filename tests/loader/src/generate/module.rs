@@ -3,7 +3,7 @@
 use crate::answers::Call;
 pub use crate::headers::Header;
 use crate::random::Random;
-use crate::{ADDRESS_END, LARGEST};
+use crate::{ADDRESS_END, LARGEST, PAGE};
 
 pub const LOAD: u32 = 1;
 pub const DYNAMIC: u32 = 2;
@@ -144,6 +144,8 @@ pub struct Shape {
     pub spare: Option<bool>,
     /// Bytes of memory after each file part.
     pub bss: Option<u64>,
+    /// Every load's address is its offset, so that any power of two is a good align.
+    pub level: bool,
     pub file_length: Option<usize>,
 }
 
@@ -239,8 +241,19 @@ impl Module {
         let mut offset = if headers_first { front } else { 64 };
         let mut address = if r.once_in(3) { 0 } else { r.below(20) * r.pick(&[16, 16, 256, 1]) };
         for i in 0..loads {
-            let align = r.pick(&[0, 1, 1, 2, 8, 16, 16, 64, 256, 4096]);
-            if i == 0 && covers_headers {
+            // Address and offset the same: they agree by any power of two.
+            let level = shape.level || address < 1 << 14 && r.once_in(6);
+            let align = if level {
+                1 << if r.once_in(3) { r.below(64) } else { r.below(21) }
+            } else if address < LARGEST / 2 && r.once_in(9) {
+                r.pick(&[1 << 13, 1 << 14, 1 << 14, 1 << 15, 1 << 16, 1 << 16])
+            } else {
+                r.pick(&[0, 1, 1, 2, 8, 16, 16, 64, 256, 4096])
+            };
+            if level {
+                offset = if i == 0 && covers_headers { 0 } else { offset.max(address) };
+                address = offset;
+            } else if i == 0 && covers_headers {
                 (offset, address) = (0, up(address, align.max(1)));
             } else if align > 1 {
                 offset = up(offset, 8) + r.below(3) * 8;
@@ -395,22 +408,59 @@ impl Module {
     }
 
     fn choose_run(&mut self, r: &mut Random) {
-        let least = up(self.last_end(), 16);
+        let (least, unit) = (up(self.last_end(), 16), self.bias_unit());
         self.memory = match r.below(8) {
             0..=2 => least,
             3..=5 => least + r.below(40) * 16,
-            6 => up(least, 4096),
+            // The highest bias may end such a memory at 2^48.
+            6 => up(least, unit.min(1 << 16)),
             _ => least + 16,
         }
         .min(LARGEST);
         self.plane = self.memory / 16;
-        self.bias = match r.below(6) {
+        let bias = match r.below(6) {
             0 | 1 => 0,
-            2 => r.below(50) * 4096,
+            2 => unit.saturating_mul(r.below(50)),
             3 => 0x4000_0000,
-            4 => r.below(1 << 35) * 4096,
-            _ => (ADDRESS_END - self.memory) / 4096 * 4096,
+            4 => r.below(1 << 47),
+            _ => u64::MAX,
         };
+        self.bias = bias.min(ADDRESS_END - self.memory) / unit * unit;
+    }
+
+    /// The largest align of a load; 0 counts as 1.
+    pub fn largest_align(&self) -> u64 {
+        self.loads().into_iter().map(|i| self.headers[i].align).fold(1, u64::max)
+    }
+
+    /// What the bias must be a multiple of.
+    pub fn bias_unit(&self) -> u64 {
+        self.largest_align().max(PAGE)
+    }
+
+    pub fn bias_fits(&self) -> bool {
+        self.bias.is_multiple_of(self.bias_unit())
+    }
+
+    /// Another bias that fits; an entry whose address would be out of range keeps its old address.
+    pub fn rebias(&mut self, bias: u64) -> Option<()> {
+        let moved = bias as i64 - self.bias as i64;
+        for i in self.live() {
+            let s = match self.relocations[i].kind {
+                RELATIVE => None,
+                _ => Some(&self.symbols[self.symbol_of(i)]),
+            };
+            if s.is_some_and(|s| s.section == 0) {
+                continue;
+            }
+            let entry = &mut self.relocations[i];
+            let base = i128::from(bias) + s.map_or(0, |s| i128::from(s.value));
+            if !(0..i128::from(ADDRESS_END)).contains(&(base + i128::from(entry.addend))) {
+                entry.addend = entry.addend.checked_sub(moved)?;
+            }
+        }
+        self.bias = bias;
+        Some(())
     }
 
     fn make_symbols(&mut self, r: &mut Random, count: usize) {

@@ -37,6 +37,29 @@ fn many_relocations(r: &mut Random, count: usize) -> Module {
     Module::shaped(r, &Shape { relocations: Some(count), ..Shape::default() })
 }
 
+/// 15 loads, one of which has an align above the others' and above 4,096, and a bias that is a
+/// multiple of it, or of half of it.
+fn one_large_align(r: &mut Random, half: bool) -> Call {
+    let shape = Shape { level: true, ..many_loads() };
+    loop {
+        let mut m = Module::shaped(r, &shape);
+        for i in m.loads() {
+            m.headers[i].align = r.pick(&[0, 1, 16, 4096, 8192]);
+        }
+        let power = r.from(14, 46);
+        let large = r.pick(&m.loads());
+        m.headers[large].align = 1 << power;
+        let odd = 1 + 2 * r.below(1 << (46 - power));
+        if m.rebias(odd << (power - u64::from(half))).is_some() {
+            return m.call();
+        }
+    }
+}
+
+fn many_loads() -> Shape {
+    Shape { headers: Some(16), loads: Some(15), spare: Some(false), ..Shape::default() }
+}
+
 const LAST: usize = MOST - 1;
 
 pub const SPECIALS: &[Special] = &[
@@ -117,10 +140,10 @@ pub const SPECIALS: &[Special] = &[
         (m.call(), Taken)
     }),
     ("16 headers", |r| of(r, Shape { headers: Some(16), ..Shape::default() }, Taken)),
-    ("16 loads less one", |r| {
-        let shape =
-            Shape { headers: Some(16), loads: Some(15), spare: Some(false), ..Shape::default() };
-        of(r, shape, Taken)
+    ("16 loads less one", |r| of(r, many_loads(), Taken)),
+    ("15 loads, the bias by the largest align", |r| (one_large_align(r, false), Taken)),
+    ("15 loads, the bias by half the largest align", |r| {
+        (one_large_align(r, true), Refused(12, 0))
     }),
     ("17 headers", |r| of(r, Shape { headers: Some(17), ..Shape::default() }, Refused(3, 0))),
     ("everything at its limit", |r| {
@@ -136,6 +159,7 @@ pub const SPECIALS: &[Special] = &[
                 relocations: Some(MOST),
                 spare: Some(false),
                 bss: Some(900_000),
+                level: false,
                 file_length: Some(LARGEST as usize),
             },
         );
