@@ -38,8 +38,8 @@ uint64_t hagolstan_facts(const uint8_t *file, size_t file_length);
 /* Loads a module: checks 1 to 14, and only then writes.
  *   file      the module, an ELF64 shared object, at most 1,048,576 bytes
  *   bias      the address at which memory begins at run time, a multiple of 4,096 and of the largest align of
- *             any PT_LOAD (0 counts as 1); 0 fits every module. Only the number is asked: the buffer that is
- *             lent may stand elsewhere
+ *             any PT_LOAD (0 counts as 1). Only the number is asked: the buffer that is lent may stand
+ *             elsewhere
  *   memory    lent memory: offset x stands for the file's address x; a multiple of 16 bytes, at least the end
  *             of the last PT_LOAD, at most 1,048,576
  *   plane     lent tag plane: one byte for each 16 bytes of memory

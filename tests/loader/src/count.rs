@@ -169,6 +169,8 @@ fn rows() -> Vec<Row> {
     let both = passing(small, large);
     row("a PT_LOAD passed over, a symbol's lookup", PASSED * 512, less(both, places.clone()));
     row("a PT_LOAD passed over, a place's lookup", PASSED * 512, places);
+    let loads = beyond(EMPTY, Shape { passed: PASSED, ..EMPTY });
+    row("a PT_LOAD: the load beyond examine", PASSED, loads);
     row("the rest of examine, once", 1, vec![(1, Examine, EMPTY)]);
     rows
 }

@@ -85,8 +85,8 @@ fn section<'a, R: Rules>(
     good::<R>(&header, file, segments).ok_or(refusal(5, index))
 }
 
-/// Check 6, where some of the tags are known.
-fn values<R: Rules>(entries: &[u8], all: &[Known]) -> Result<Values, Refusal> {
+/// Check 6, where the first N tags are known.
+fn values<R: Rules, const N: usize>(entries: &[u8]) -> Result<Values, Refusal> {
     let mut values = Values::default();
     let mut null = None;
     for (index, entry) in (0..).zip(entries.chunks_exact(ENTRY)) {
@@ -101,8 +101,8 @@ fn values<R: Rules>(entries: &[u8], all: &[Known]) -> Result<Values, Refusal> {
         if REFUSED.contains(&tag) {
             return Err(refusal(6, index));
         }
-        if let Some(k) = all.iter().position(|known| known.tag == tag) {
-            if values[k].is_some() || !(all[k].allowed)(value) {
+        if let Some(k) = KNOWN[..N].iter().position(|known| known.tag == tag) {
+            if values[k].is_some() || !(KNOWN[k].allowed)(value) {
                 return Err(refusal(6, index));
             }
             values[k] = Some(value);
@@ -114,11 +114,11 @@ fn values<R: Rules>(entries: &[u8], all: &[Known]) -> Result<Values, Refusal> {
         }
     }
     let lone = |k: usize| {
-        let partner = |j: usize| all[j].group == all[k].group && values[j].is_none();
-        values[k].is_some() && (0..all.len()).any(partner)
+        let partner = |j: usize| KNOWN[j].group == KNOWN[k].group && values[j].is_none();
+        values[k].is_some() && (0..N).any(partner)
     };
     match null {
-        Some(index) if R::PARTNERS && (0..all.len()).any(lone) => Err(refusal(6, index)),
+        Some(index) if R::PARTNERS && (0..N).any(lone) => Err(refusal(6, index)),
         _ => Ok(values),
     }
 }
@@ -163,7 +163,7 @@ pub fn untagged<'a>(
     segments: &Segments,
 ) -> Result<(Option<u64>, &'a [u8]), Refusal> {
     let entries = section::<Right>(file, headers, segments)?;
-    let values = values::<Right>(entries, &KNOWN[..MODE])?;
+    let values = values::<Right, MODE>(entries)?;
     Ok((values[SYMTAB], relocations::<Right>(file, segments, &values)?))
 }
 
@@ -174,7 +174,7 @@ pub fn dynamic<'a, R: Rules>(
     segments: &Segments,
 ) -> Result<Dynamic<'a>, Refusal> {
     let entries = section::<R>(file, headers, segments)?;
-    let values = values::<R>(entries, &KNOWN)?;
+    let values = values::<R, { KNOWN.len() }>(entries)?;
     let relocations = relocations::<R>(file, segments, &values)?;
     let descriptors =
         table::<R>(file, segments, values[GLOBALS], values[GLOBALSSZ]).ok_or(refusal(7, 1))?;
