@@ -66,12 +66,13 @@ fn bias_fits(f: &[u8], h: Headers, memory: u64, bias: u64) -> bool
 fn lending_fits(f: &[u8], h: Headers, memory: u64, plane: u64, bias: u64) -> bool
     ensures { λ r. ⌜ r ≡ (memoryFits (loadsEnd (now (f .entry)) h) (largestAlign (now (f .entry)) h) memory bias && planeFits memory plane) ⌝ }
 {
+    let fits = bias_fits(f, h, memory, bias);
     reads::both(
         reads::both(
             memory % GRANULE == 0,
             reads::both(
                 segments::loads_end_within(f, h, memory),
-                reads::both(memory <= MEMORY_LIMIT, bias_fits(f, h, memory, bias)),
+                reads::both(memory <= MEMORY_LIMIT, fits),
             ),
         ),
         plane == memory / GRANULE,

@@ -13,11 +13,12 @@ returns c =
     let B3 = c .before in
     let B2 = B3 .before in
     let B1 = B2 .before in
-    let F = B1 .before in
-    let a = F .before .before .before .args in
+    let W = B1 .before in
+    let F = W .before in
+    let a = F .before .before .args in
     rw (c .both4 .ensures, B3 .both3 .ensures)
     (whole-granules (a .memory) (a .plane) (B2 .both2 .result)
-    ∙ rw (B2 .both2 .ensures, B1 .both .ensures, F .bias-fits .ensures, F .before .loads-end-within .ensures))
+    ∙ rw (B2 .both2 .ensures, B1 .both .ensures, F .bias-fits .ensures, W .loads-end-within .ensures))
 
 pub lending-fits-spec : {M : Type 1} → statement M
 lending-fits-spec =
