@@ -19,7 +19,7 @@ use Rattle.rules.proofs.OutcomeLaws.{and-left, and-right, require-held}
 use Rattle.laws.proofs.Checks.{cond-case}
 use Rattle.laws.proofs.Loads.{load-good, load-end}
 use Rattle.laws.proofs.Aligns.{aligned-agree, largest-each, each-largest}
-use Rattle.demands.specs.Lending.{Fits, Lends, InStep}
+use Rattle.demands.specs.Lending.{Fitting, Lends, InStep}
 
 -- the lent memory and the bias fit, where the PT_LOADs end at last and align is their largest
 pub record Lent (last align n bias : ℕ) : Type 0 where
@@ -69,23 +69,23 @@ ends-within f h n (suc k) each =
     (λ _. ends-within f h n k (λ i l e. each i (omega arith) e))
 
 module _ (f : List ℕ) (h : Headers) (passed : loadsCheck f h ≡ good tt) (bias n : ℕ) where
-  lent-fits : Lent (loadsEnd f h) (largestAlign f h) n bias → Fits f h bias n
+  lent-fits : Lent (loadsEnd f h) (largestAlign f h) n bias → Fitting f h bias n
   lent-fits t = record {
     whole = t .whole;
     holds = λ i l e. let b = load-end f h passed (h .count) i (omega arith) l e in let c = t .holds in omega arith;
     short = t .short;
     paged = t .paged;
-    aligned = largest-each f h passed bias (t .multiple);
+    aligned = largest-each f h bias passed (t .multiple);
     low = t .low;
   }
 
-  fits-lent : Fits f h bias n → Lent (loadsEnd f h) (largestAlign f h) n bias
+  fits-lent : Fitting f h bias n → Lent (loadsEnd f h) (largestAlign f h) n bias
   fits-lent t = record {
     whole = t .whole;
     holds = ends-within f h n (h .count) (t .holds);
     short = t .short;
     paged = t .paged;
-    multiple = each-largest f h bias (h .count) (t .aligned);
+    multiple = each-largest f h bias (t .aligned);
     low = t .low;
   }
 
@@ -98,7 +98,7 @@ module _ (f : List ℕ) (h : Headers) (passed : loadsCheck f h ≡ good tt) (bia
       (λ (d : s .align ∣ bias).
       sym (mod-add-mod bias (s .align) (s .vaddr))
       ∙ rw (mod-eq-zero-of-dvd (s .align) d, zero-add) (sym (aligned-agree (s .align) (s .offset) (s .vaddr) (load-good f h passed i l e .in-step) pos)))
-      (largest-each f h passed bias (t .multiple) i l e)
+      (largest-each f h bias passed (t .multiple) i l e)
 
 pub plane-lent : (n p : ℕ) → planeFits n p ≡ true → granule * p ≡ n
 unfolding planeFits
@@ -113,9 +113,9 @@ unfolding lendingCheck lendingFits
 lends f m bias n p passed =
     let last = loadsEnd f (m .headers) in
     let align = largestAlign f (m .headers) in
-    let fits : memoryFits last align n bias ≡ true → Fits f (m .headers) bias n =
+    let fits : memoryFits last align n bias ≡ true → Fitting f (m .headers) bias n =
     λ e. lent-fits f (m .headers) passed bias n (memory-lent last align n bias e) in
-    let unfits : Fits f (m .headers) bias n → memoryFits last align n bias ≡ true =
+    let unfits : Fitting f (m .headers) bias n → memoryFits last align n bias ≡ true =
     λ t. lent-memory last align n bias (fits-lent f (m .headers) passed bias n t) in
     record {
       lends-if = λ t q. rw (unfits t, lent-plane n p q);

@@ -20,7 +20,7 @@ Each f h P = (i : ℕ) → i < h .count → isLoad (headerAt f h i) ≡ true →
 
 -- a memory of n bytes and a bias: whole granules that hold each PT_LOAD; a multiple of a page and of each PT_LOAD's align,
 -- where 0 counts as 1
-pub record Fits (f : List ℕ) (h : Headers) (bias n : ℕ) : Type 0 where
+pub record Fitting (f : List ℕ) (h : Headers) (bias n : ℕ) : Type 0 where
   pub whole : granule ∣ n
   pub holds : Each f h (λ s. s .vaddr + s .memsz ≤ n)
   pub short : n ≤ memoryLimit
@@ -30,10 +30,10 @@ pub record Fits (f : List ℕ) (h : Headers) (bias n : ℕ) : Type 0 where
 
 -- check 12 passes exactly when they fit, and the plane is one sixteenth; the plain loader's knows no plane
 pub record Lends (f : List ℕ) (m : Module) (bias n p : ℕ) : Type 0 where
-  pub lends-if : Fits f (m .headers) bias n → granule * p ≡ n → lendingCheck f m bias n p ≡ good tt
-  pub lends-only-if : lendingCheck f m bias n p ≡ good tt → Fits f (m .headers) bias n × (granule * p ≡ n)
-  pub plain-if : Fits f (m .headers) bias n → plainLending f m bias n ≡ good tt
-  pub plain-only-if : plainLending f m bias n ≡ good tt → Fits f (m .headers) bias n
+  pub lends-if : Fitting f (m .headers) bias n → granule * p ≡ n → lendingCheck f m bias n p ≡ good tt
+  pub lends-only-if : lendingCheck f m bias n p ≡ good tt → Fitting f (m .headers) bias n × (granule * p ≡ n)
+  pub plain-if : Fitting f (m .headers) bias n → plainLending f m bias n ≡ good tt
+  pub plain-only-if : plainLending f m bias n ≡ good tt → Fitting f (m .headers) bias n
 
 -- at its run-time address each PT_LOAD is in step with its offset, modulo its align
 abbrev pub InStep : List ℕ → Headers → ℕ → Type 0

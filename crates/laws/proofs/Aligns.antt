@@ -22,6 +22,9 @@ pub record Power (a : ℕ) : Type 0 where
   pub exponent : ℕ
   pub power : a ≡ 2 ^ exponent
 
+one-power : Power 1
+one-power = record { exponent = 0; power = refl }
+
 power-below : (n a : ℕ) → powerBelow n a ≡ true → Power a
 unfolding powerBelow
 power-below zero a e = false-true e
@@ -47,7 +50,7 @@ aligned-power a offset vaddr e = go (ltb a 2) refl e
   where
     small : (a : ℕ) → a < 2 → (a ≡ 0) ⊎ Power a
     small zero l = inl refl
-    small (suc zero) l = inr (record { exponent = 0; power = refl })
+    small (suc zero) l = inr one-power
     small (suc (suc a)) l = absurd (omega arith)
 
     go : (b : Bool) → ltb a 2 ≡ b → (b || (powerBelow 64 a && eqb (offset % a) (vaddr % a))) ≡ true → (a ≡ 0) ⊎ Power a
@@ -66,76 +69,63 @@ aligned-agree a offset vaddr e pos = go (ltb a 2) refl e
     go true q e = let l = ltb-true a 2 q in small (omega arith)
     go false q e = eqb-true _ _ (and-right (powerBelow 64 a) _ e)
 
-module _ (f : List ℕ) (h : Headers) (passed : loadsCheck f h ≡ good tt) where
-  align-power : (i : ℕ) → i < h .count → isLoad (headerAt f h i) ≡ true → (headerAt f h i .align ≡ 0) ⊎ Power (headerAt f h i .align)
-  align-power i l e = aligned-power _ _ _ (load-good f h passed i l e .in-step)
-
-  largest-power : (k : ℕ) → k ≤ h .count → Power (alignBefore f h k)
-  unfolding alignBefore
-  largest-power zero u = record { exponent = 0; power = refl }
-  largest-power (suc k) u =
-      let x = alignBefore f h k in
-      let a = headerAt f h k .align in
-      let before = largest-power k (omega arith) in
-      cond-case Power (isLoad (headerAt f h k)) (max x a) x
-      (λ t.
-      ⊎-elim
-      (λ (l : a ≤ x). subst Power (sym (max-eq-left l)) before)
-      (λ (l : x < a).
-      ⊎-elim
-      (λ (z : a ≡ 0). absurd (omega arith))
-      (λ (p : Power a). subst Power (sym (max-eq-right (omega arith))) p)
-      (align-power k (omega arith) t))
-      (le-or-lt a x))
-      (λ _. before)
-
-  align-most : (k i : ℕ) → i < k → isLoad (headerAt f h i) ≡ true → headerAt f h i .align ≤ alignBefore f h k
-  unfolding alignBefore
-  align-most zero i l e = absurd (omega arith)
-  align-most (suc k) i l e =
-      let x = alignBefore f h k in
-      let a = headerAt f h k .align in
-      cond-case (λ z. headerAt f h i .align ≤ z) (isLoad (headerAt f h k)) (max x a) x
-      (λ t.
-      ⊎-elim
-      (λ (q : i ≡ k). rw q (le-max-right x a))
-      (λ (q : i < k). let m = le-max-left x a in let b = align-most k i q e in omega arith)
-      (eq-or-lt-of-le (le-of-suc-le-suc l)))
-      (λ t.
-      ⊎-elim
-      (λ (q : i ≡ k). let u : isLoad (headerAt f h k) ≡ true = rw (← q) e in false-true (sym t ∙ u))
-      (λ (q : i < k). align-most k i q e)
-      (eq-or-lt-of-le (le-of-suc-le-suc l)))
-
-  -- a multiple of the largest align is a multiple of each but 0
-  pub largest-each : (bias : ℕ) → alignBefore f h (h .count) ∣ bias → (i : ℕ) → i < h .count → isLoad (headerAt f h i) ≡ true
-      → (headerAt f h i .align ≡ 0) ⊎ (headerAt f h i .align ∣ bias)
-  largest-each bias d i l e =
-      let a = headerAt f h i .align in
-      ⊎-elim
-      (λ (z : a ≡ 0). inl z)
-      (λ (p : Power a).
-      inr (dvd-trans a (power-divides a _ p (largest-power (h .count) (omega arith)) (align-most (h .count) i l e)) d))
-      (align-power i l e)
-
--- and a multiple of each but 0 is a multiple of the largest
-pub each-largest : (f : List ℕ) (h : Headers) (bias k : ℕ)
-    → ((i : ℕ) → i < k → isLoad (headerAt f h i) ≡ true → (headerAt f h i .align ≡ 0) ⊎ (headerAt f h i .align ∣ bias))
-    → alignBefore f h k ∣ bias
+-- what holds of 1, and of each align but 0, holds of the largest
+largest-all : (f : List ℕ) (h : Headers) (P : ℕ → Type 0) (k : ℕ) → P 1
+    → ((i : ℕ) → i < k → isLoad (headerAt f h i) ≡ true → (headerAt f h i .align ≡ 0) ⊎ P (headerAt f h i .align))
+    → P (alignBefore f h k)
 unfolding alignBefore
-each-largest f h bias zero each = one-dvd bias
-each-largest f h bias (suc k) each =
+largest-all f h P zero one each = one
+largest-all f h P (suc k) one each =
     let x = alignBefore f h k in
     let a = headerAt f h k .align in
-    let before = each-largest f h bias k (λ i l e. each i (omega arith) e) in
-    cond-case (λ z. z ∣ bias) (isLoad (headerAt f h k)) (max x a) x
+    let before = largest-all f h P k one (λ i l e. each i (omega arith) e) in
+    cond-case P (isLoad (headerAt f h k)) (max x a) x
     (λ t.
     ⊎-elim
-    (λ (l : a ≤ x). subst (λ (z : ℕ). z ∣ bias) (sym (max-eq-left l)) before)
+    (λ (l : a ≤ x). subst P (sym (max-eq-left l)) before)
     (λ (l : x < a).
     ⊎-elim
     (λ (z : a ≡ 0). absurd (omega arith))
-    (λ (d : a ∣ bias). subst (λ (z : ℕ). z ∣ bias) (sym (max-eq-right (omega arith))) d)
+    (λ (p : P a). subst P (sym (max-eq-right (omega arith))) p)
     (each k (omega arith) t))
     (le-or-lt a x))
     (λ _. before)
+
+-- no align is above the largest
+align-most : (f : List ℕ) (h : Headers) (k i : ℕ) → i < k → isLoad (headerAt f h i) ≡ true → headerAt f h i .align ≤ alignBefore f h k
+unfolding alignBefore
+align-most f h zero i l e = absurd (omega arith)
+align-most f h (suc k) i l e =
+    let x = alignBefore f h k in
+    let a = headerAt f h k .align in
+    cond-case (λ z. headerAt f h i .align ≤ z) (isLoad (headerAt f h k)) (max x a) x
+    (λ t.
+    ⊎-elim
+    (λ (q : i ≡ k). rw q (le-max-right x a))
+    (λ (q : i < k). let m = le-max-left x a in let b = align-most f h k i q e in omega arith)
+    (eq-or-lt-of-le (le-of-suc-le-suc l)))
+    (λ t.
+    ⊎-elim
+    (λ (q : i ≡ k). let u : isLoad (headerAt f h k) ≡ true = rw (← q) e in false-true (sym t ∙ u))
+    (λ (q : i < k). align-most f h k i q e)
+    (eq-or-lt-of-le (le-of-suc-le-suc l)))
+
+-- a multiple of the largest align is a multiple of each but 0
+pub largest-each : (f : List ℕ) (h : Headers) (bias : ℕ) → loadsCheck f h ≡ good tt → alignBefore f h (h .count) ∣ bias
+    → (i : ℕ) → i < h .count → isLoad (headerAt f h i) ≡ true → (headerAt f h i .align ≡ 0) ⊎ (headerAt f h i .align ∣ bias)
+largest-each f h bias passed d i l e =
+    let a = headerAt f h i .align in
+    ⊎-elim
+    (λ (z : a ≡ 0). inl z)
+    (λ (p : Power a).
+    inr (dvd-trans a (power-divides a _ p (largest-all f h Power (h .count) one-power align-power) (align-most f h (h .count) i l e)) d))
+    (align-power i l e)
+  where
+    align-power : (i : ℕ) → i < h .count → isLoad (headerAt f h i) ≡ true → (headerAt f h i .align ≡ 0) ⊎ Power (headerAt f h i .align)
+    align-power i l e = aligned-power _ _ _ (load-good f h passed i l e .in-step)
+
+-- and a multiple of each but 0 is a multiple of the largest
+pub each-largest : (f : List ℕ) (h : Headers) (bias : ℕ)
+    → ((i : ℕ) → i < h .count → isLoad (headerAt f h i) ≡ true → (headerAt f h i .align ≡ 0) ⊎ (headerAt f h i .align ∣ bias))
+    → alignBefore f h (h .count) ∣ bias
+each-largest f h bias each = largest-all f h (λ a. a ∣ bias) (h .count) (one-dvd bias) each
