@@ -103,13 +103,11 @@ lendingCases =
 abbrev byAlign : ℕ → ℕ → Outcome Facts → Case
 byAlign align at says = lent (with sample (header 0 + 48) 8 align) at 720 45 (5 ∷ 9 ∷ 3 ∷ []) says
 
--- aligns: the bias a multiple of 4,096, and of the largest; a largest of 2^63, with bias 0 and another; PT_DYNAMIC's, which is not asked
+-- aligns: a bias that is a multiple of the last one and not of the largest; a largest of 2^63 and bias 0; PT_DYNAMIC's, which is not asked
 abbrev pub alignCases : List Case
 alignCases =
     byAlign 16384 4096 (refuse 12 0)
-    ∷ byAlign 16384 49152 (good (factsWith 3 3))
     ∷ byAlign (2 ^ 63) 0 (good (factsWith 3 3))
-    ∷ byAlign (2 ^ 63) (2 ^ 47) (refuse 12 0)
     ∷ lent (with sample (header 2 + 48) 8 16384) 4096 720 45 (5 ∷ 9 ∷ 3 ∷ []) (good (factsWith 3 3))
     ∷ []
 
@@ -169,7 +167,6 @@ plainCases =
     ∷ bare (withTag 0x70000009 2) bias (good tt)
     ∷ bare (with sample (descriptor 3) 1 0x80) bias (good tt)
     ∷ bare (with sample (header 0 + 48) 8 16384) 4096 (refuse 12 0)
-    ∷ bare (with sample (header 0 + 48) 8 16384) 16384 (good tt)
     ∷ []
 
 abbrev pub PlainAnswered : List PlainCase → Type 0
