@@ -6,7 +6,6 @@ use mathlib.Core.Bool.{true, _&&_}
 use mathlib.Core.List.{List}
 use Rattle.rules.specs.Outcome.{good, bad}
 use Rattle.rules.specs.Checks.{Check, runs, checked}
-use Rattle.rules.specs.Segments.{loadsEnd, largestAlign}
 use Rattle.rules.specs.Reader.{theModule, readerChecks, moduleOf}
 use Rattle.rules.specs.Relocations.{relocationsCheck}
 use Rattle.rules.specs.Examine.{factsOf, moduleChecks, examineChecks, examinedOf}
@@ -67,12 +66,12 @@ module _ (f : List ℕ) (bias n p : ℕ) (choices : List ℕ) (m : Module) where
   passes-checks c = all-runs (callChecks f m bias n p choices) (c .relocates, (c .lends, (c .addresses, (c .chosen, tt))))
 
   -- memory and plane fit by themselves
-  pub passes-fits : Passes f bias n p choices m → (memoryFits (loadsEnd f (m .headers)) (largestAlign f (m .headers)) n bias ≡ true) × (planeFits n p ≡ true)
+  pub passes-fits : Passes f bias n p choices m → (memoryFits f (m .headers) n bias ≡ true) × (planeFits n p ≡ true)
   unfolding lendingCheck lendingFits
   passes-fits c =
-      let fits = require-held (memoryFits (loadsEnd f (m .headers)) (largestAlign f (m .headers)) n bias && planeFits n p) 12 0 (c .lends) in (
-        and-left (memoryFits (loadsEnd f (m .headers)) (largestAlign f (m .headers)) n bias) (planeFits n p) fits,
-        and-right (memoryFits (loadsEnd f (m .headers)) (largestAlign f (m .headers)) n bias) (planeFits n p) fits,
+      let fits = require-held (memoryFits f (m .headers) n bias && planeFits n p) 12 0 (c .lends) in (
+        and-left (memoryFits f (m .headers) n bias) (planeFits n p) fits,
+        and-right (memoryFits f (m .headers) n bias) (planeFits n p) fits,
       )
 
 -- l is what a load of a module that passes leaves

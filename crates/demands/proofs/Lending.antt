@@ -21,40 +21,41 @@ use Rattle.laws.proofs.Loads.{load-good, load-end}
 use Rattle.laws.proofs.Aligns.{aligned-agree, largest-each, each-largest}
 use Rattle.demands.specs.Lending.{Fitting, Lends, InStep}
 
--- the lent memory and the bias fit, where the PT_LOADs end at last and align is their largest
-pub record Lent (last align n bias : ℕ) : Type 0 where
+-- the lent memory and the bias fit, clause by clause
+pub record Lent (f : List ℕ) (h : Headers) (n bias : ℕ) : Type 0 where
   pub whole : granule ∣ n
-  pub holds : last ≤ n
+  pub holds : loadsEnd f h ≤ n
   pub short : n ≤ memoryLimit
   pub paged : page ∣ bias
-  pub multiple : align ∣ bias
+  pub multiple : largestAlign f h ∣ bias
   pub low : bias + n ≤ addressLimit
 
-pub memory-lent : (last align n bias : ℕ) → memoryFits last align n bias ≡ true → Lent last align n bias
+pub memory-lent : (f : List ℕ) (h : Headers) (n bias : ℕ) → memoryFits f h n bias ≡ true → Lent f h n bias
 unfolding memoryFits biasFits
-memory-lent last align n bias h =
-    let a = and-right (eqb (n % granule) 0) _ h in
-    let b = and-right (leb last n) _ a in
+memory-lent f h n bias e =
+    let a = and-right (eqb (n % granule) 0) _ e in
+    let b = and-right (leb (loadsEnd f h) n) _ a in
     let c = and-right (leb n memoryLimit) _ b in
     let d = and-right (eqb (bias % page) 0) _ c in
+    let align = largestAlign f h in
     record {
-      whole = dvd-of-mod-eq-zero granule (eqb-true (n % granule) 0 (and-left (eqb (n % granule) 0) _ h));
-      holds = leb-true last n (and-left (leb last n) _ a);
+      whole = dvd-of-mod-eq-zero granule (eqb-true (n % granule) 0 (and-left (eqb (n % granule) 0) _ e));
+      holds = leb-true (loadsEnd f h) n (and-left (leb (loadsEnd f h) n) _ a);
       short = leb-true n memoryLimit (and-left (leb n memoryLimit) _ b);
       paged = dvd-of-mod-eq-zero page (eqb-true (bias % page) 0 (and-left (eqb (bias % page) 0) _ c));
       multiple = dvd-of-mod-eq-zero align (eqb-true (bias % align) 0 (and-left (eqb (bias % align) 0) _ d));
       low = leb-true (bias + n) addressLimit (and-right (eqb (bias % align) 0) _ d);
     }
 
-lent-memory : (last align n bias : ℕ) → Lent last align n bias → memoryFits last align n bias ≡ true
+lent-memory : (f : List ℕ) (h : Headers) (n bias : ℕ) → Lent f h n bias → memoryFits f h n bias ≡ true
 unfolding memoryFits biasFits
-lent-memory last align n bias t =
+lent-memory f h n bias t =
     rw (
       eq-eqb (n % granule) 0 (mod-eq-zero-of-dvd granule (t .whole)),
-      le-leb last n (t .holds),
+      le-leb (loadsEnd f h) n (t .holds),
       le-leb n memoryLimit (t .short),
       eq-eqb (bias % page) 0 (mod-eq-zero-of-dvd page (t .paged)),
-      eq-eqb (bias % align) 0 (mod-eq-zero-of-dvd align (t .multiple)),
+      eq-eqb (bias % largestAlign f h) 0 (mod-eq-zero-of-dvd (largestAlign f h) (t .multiple)),
       le-leb (bias + n) addressLimit (t .low),
     )
 
@@ -69,7 +70,7 @@ ends-within f h n (suc k) each =
     (λ _. ends-within f h n k (λ i l e. each i (omega arith) e))
 
 module _ (f : List ℕ) (h : Headers) (passed : loadsCheck f h ≡ good tt) (bias n : ℕ) where
-  lent-fits : Lent (loadsEnd f h) (largestAlign f h) n bias → Fitting f h bias n
+  lent-fits : Lent f h n bias → Fitting f h bias n
   lent-fits t = record {
     whole = t .whole;
     holds = λ i l e. let b = load-end f h passed (h .count) i (omega arith) l e in let c = t .holds in omega arith;
@@ -79,7 +80,7 @@ module _ (f : List ℕ) (h : Headers) (passed : loadsCheck f h ≡ good tt) (bia
     low = t .low;
   }
 
-  fits-lent : Fitting f h bias n → Lent (loadsEnd f h) (largestAlign f h) n bias
+  fits-lent : Fitting f h bias n → Lent f h n bias
   fits-lent t = record {
     whole = t .whole;
     holds = ends-within f h n (h .count) (t .holds);
@@ -90,14 +91,15 @@ module _ (f : List ℕ) (h : Headers) (passed : loadsCheck f h ≡ good tt) (bia
   }
 
   -- a bias that is a multiple of an align moves no address modulo it
-  pub lent-in-step : Lent (loadsEnd f h) (largestAlign f h) n bias → InStep f h bias
+  pub lent-in-step : Lent f h n bias → InStep f h bias
   lent-in-step t i l e pos =
       let s = headerAt f h i in
       ⊎-elim
       (λ (z : s .align ≡ 0). absurd (omega arith))
       (λ (d : s .align ∣ bias).
       sym (mod-add-mod bias (s .align) (s .vaddr))
-      ∙ rw (mod-eq-zero-of-dvd (s .align) d, zero-add) (sym (aligned-agree (s .align) (s .offset) (s .vaddr) (load-good f h passed i l e .in-step) pos)))
+      ∙ rw (mod-eq-zero-of-dvd (s .align) d, zero-add)
+      (sym (aligned-agree (s .align) (s .offset) (s .vaddr) (load-good f h passed i l e .in-step) pos)))
       (largest-each f h bias passed (t .multiple) i l e)
 
 pub plane-lent : (n p : ℕ) → planeFits n p ≡ true → granule * p ≡ n
@@ -111,17 +113,14 @@ lent-plane n p e = eq-eqb (granule * p) n e
 pub lends : (f : List ℕ) (m : Module) (bias n p : ℕ) → loadsCheck f (m .headers) ≡ good tt → Lends f m bias n p
 unfolding lendingCheck lendingFits
 lends f m bias n p passed =
-    let last = loadsEnd f (m .headers) in
-    let align = largestAlign f (m .headers) in
-    let fits : memoryFits last align n bias ≡ true → Fitting f (m .headers) bias n =
-    λ e. lent-fits f (m .headers) passed bias n (memory-lent last align n bias e) in
-    let unfits : Fitting f (m .headers) bias n → memoryFits last align n bias ≡ true =
-    λ t. lent-memory last align n bias (fits-lent f (m .headers) passed bias n t) in
+    let h = m .headers in
+    let fits : memoryFits f h n bias ≡ true → Fitting f h bias n = λ e. lent-fits f h passed bias n (memory-lent f h n bias e) in
+    let unfits : Fitting f h bias n → memoryFits f h n bias ≡ true = λ t. lent-memory f h n bias (fits-lent f h passed bias n t) in
     record {
       lends-if = λ t q. rw (unfits t, lent-plane n p q);
       lends-only-if = λ e.
-          let b = require-held (memoryFits last align n bias && planeFits n p) 12 0 e in
-          (fits (and-left (memoryFits last align n bias) (planeFits n p) b), plane-lent n p (and-right (memoryFits last align n bias) (planeFits n p) b));
+          let b = require-held (memoryFits f h n bias && planeFits n p) 12 0 e in
+          (fits (and-left (memoryFits f h n bias) (planeFits n p) b), plane-lent n p (and-right (memoryFits f h n bias) (planeFits n p) b));
       plain-if = λ t. rw (unfits t);
-      plain-only-if = λ e. fits (require-held (memoryFits last align n bias) 12 0 e);
+      plain-only-if = λ e. fits (require-held (memoryFits f h n bias) 12 0 e);
     }

@@ -18,7 +18,7 @@ use Rattle.rules.specs.Bytes.{le, part}
 use Rattle.rules.specs.First.{faultsAt}
 use Rattle.rules.specs.Memory.{bytesOf, putWord, signed}
 use Rattle.rules.specs.Headers.{headerChecks, headersOf}
-use Rattle.rules.specs.Segments.{headerAt, isLoad, loadsCheck, loadsEnd, largestAlign}
+use Rattle.rules.specs.Segments.{headerAt, isLoad, loadsCheck, loadsEnd}
 use Rattle.rules.specs.Relocations.{abs64, globDat, relative, placeAt, kindAt, symbolAt, addendAt, live, items, positionAt}
 use Rattle.rules.specs.Relocations.{symbolBacking, symbolOf, targetOf, namedTarget, target, barred}
 use Rattle.rules.specs.Relocations.{hasPlace, taken, goodPlace, badRelocation, firstBad, relocationsCheck}
@@ -207,8 +207,7 @@ pub plain-module : (f : List ℕ) (m : Module) (bias n : ℕ) → m ≡ theModul
     → loadsCheck f (m .headers) ≡ good tt
     → passed (dynamicOf f (m .headers)) ≡ good tt → entriesCheck baseTags f (m .dynamic) ≡ good tt
     → passed (relocationsOf f (m .headers) (m .dynamic)) ≡ good tt → relocationsCheck f m ≡ good tt
-    → memoryFits (loadsEnd f (m .headers)) (largestAlign f (m .headers)) n bias ≡ true
-    → faultsAt 13 (positionAt m) (badBare f m bias) (items m) ≡ good tt
+    → memoryFits f (m .headers) n bias ≡ true → faultsAt 13 (positionAt m) (badBare f m bias) (items m) ≡ good tt
     → plainOf f bias n ≡ good (plainMemory f (plainModule f) bias n)
 unfolding plainOf headersOf
 plain-module f m bias n found headed loads dynamic entries relocations relocates fits addresses =

@@ -7,7 +7,7 @@ use mathlib.Core.Logic.{inl, inr, ⊎-elim}
 use native.Mathlib.Omega.{arith}
 use lib.ListN.{length}
 use Rattle.rules.specs.Limits.{addressLimit}
-use Rattle.rules.specs.Segments.{loadsEnd, largestAlign}
+use Rattle.rules.specs.Segments.{loadsEnd}
 use Rattle.rules.specs.Relocations.{placeAt, live, items}
 use Rattle.rules.specs.Addresses.{natural, addressAt}
 use Rattle.rules.specs.Choices.{globalsIn}
@@ -34,7 +34,7 @@ in-run k n l = omega arith
 
 pub record Stands (f : List ℕ) (bias n p : ℕ) (choices : List ℕ) (m : Module) : Type 0 where
   pub reading : Reads f m
-  pub lent : Lent (loadsEnd f (m .headers)) (largestAlign f (m .headers)) n bias
+  pub lent : Lent f (m .headers) n bias
   pub planed : 16 * p ≡ n
   pub rising : Rising (globalsIn f m) (loadsEnd f (m .headers))
   pub chosen : Chosen (globalsIn f m) choices
@@ -46,7 +46,7 @@ module _ (f : List ℕ) (bias n p : ℕ) (choices : List ℕ) (m : Module) where
   passes-stands c =
       let r = module-reads f m (c .reads) in
       let fits = passes-fits f bias n p choices m c in
-      let t = memory-lent (loadsEnd f (m .headers)) (largestAlign f (m .headers)) n bias (fits .0) in
+      let t = memory-lent f (m .headers) n bias (fits .0) in
       let z = image-size f (m .headers) n in
       record {
         reading = r;

@@ -13,7 +13,7 @@ use Rattle.rules.specs.Bytes.{le, part}
 use Rattle.rules.specs.First.{faultsAt}
 use Rattle.rules.specs.Memory.{bytesOf, signed}
 use Rattle.rules.specs.Headers.{headerChecks, theHeaders}
-use Rattle.rules.specs.Segments.{headerAt, isLoad, loadsCheck, loadsEnd, largestAlign, backingOf}
+use Rattle.rules.specs.Segments.{headerAt, isLoad, loadsCheck, backingOf}
 use Rattle.rules.specs.Dynamic.{dynamicOf, symtab, baseTags, entriesCheck, entryOf}
 use Rattle.rules.specs.Tables.{relocationsOf}
 use Rattle.rules.specs.Reader.{theDynamic, theRelocations}
@@ -85,7 +85,7 @@ plainModule f = record {
 
 -- its check 12 asks of the memory's length and of the bias
 abbrev pub plainLending : List ℕ → Module → ℕ → ℕ → Check
-plainLending f m bias n = require (memoryFits (loadsEnd f (m .headers)) (largestAlign f (m .headers)) n bias) 12 0
+plainLending f m bias n = require (memoryFits f (m .headers) n bias) 12 0
 
 -- checks 1 to 7 and 10 to 13 in their order, where the five memtag tags are unknown
 abbrev pub plainChecks : List ℕ → Module → ℕ → ℕ → List Check

@@ -12,7 +12,8 @@ use lib.Dec.{leb, eqb}
 use borrow.Author.Tests.{leb-true, not-false}
 use Rattle.rules.specs.Outcome.{good}
 use Rattle.rules.specs.Limits.{memoryLimit}
-use Rattle.rules.specs.Segments.{headerAt, isLoad, aligned, goodLoad, endBefore, badLoad, loadsCheck, loadsEnd, covers, holds, inMemory, holdsAt, writable}
+use Rattle.rules.specs.Segments.{headerAt, isLoad, aligned, goodLoad, endBefore, badLoad, loadsCheck, loadsEnd}
+use Rattle.rules.specs.Segments.{covers, holds, inMemory, holdsAt, writable}
 use Rattle.rules.specs.declared.Headers.{Headers}
 use Rattle.rules.specs.declared.Segment.{Segment}
 use Rattle.rules.proofs.OutcomeLaws.{and-left, and-right}

@@ -3,7 +3,7 @@ ghost use mathlib.Core.Path.{_≡_};
 ghost use mathlib.Core.Bool.{cond, _&&_};
 ghost use Prim.Native.Nat.{max};
 ghost use lib.ListN.{length};
-ghost use Rattle.rules.specs.Segments.{headerAt, isLoad, loadsEnd, largestAlign};
+ghost use Rattle.rules.specs.Segments.{headerAt, isLoad, largestAlign};
 ghost use Rattle.rules.specs.Lending.{biasFits, memoryFits, planeFits, lendingCheck};
 ghost use Rattle.rules.specs.Image.{putLoad, imageOf};
 ghost use Rattle.rules.specs.Answers.{ofChecked};
@@ -64,7 +64,7 @@ fn bias_fits(f: &[u8], h: Headers, memory: u64, bias: u64) -> bool
 
 // The lent memory, the plane and the bias fit.
 fn lending_fits(f: &[u8], h: Headers, memory: u64, plane: u64, bias: u64) -> bool
-    ensures { λ r. ⌜ r ≡ (memoryFits (loadsEnd (now (f .entry)) h) (largestAlign (now (f .entry)) h) memory bias && planeFits memory plane) ⌝ }
+    ensures { λ r. ⌜ r ≡ (memoryFits (now (f .entry)) h memory bias && planeFits memory plane) ⌝ }
 {
     let fits = bias_fits(f, h, memory, bias);
     reads::both(

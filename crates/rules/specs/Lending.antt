@@ -8,19 +8,20 @@ use Rattle.rules.specs.Outcome.{require}
 use Rattle.rules.specs.Checks.{Check}
 use Rattle.rules.specs.Limits.{memoryLimit, addressLimit, granule, page}
 use Rattle.rules.specs.Segments.{loadsEnd, largestAlign}
+use Rattle.rules.specs.declared.Headers.{Headers}
 use Rattle.rules.specs.declared.Module.{Module}
 
 -- the bias is a multiple of a page and of the largest align, and leaves room for a memory of so many bytes
 unfoldable pub biasFits : ℕ → ℕ → ℕ → Bool
 biasFits align memory bias = eqb (bias % page) 0 && (eqb (bias % align) 0 && leb (bias + memory) addressLimit)
 
--- a memory of so many bytes and the bias, where the PT_LOADs end at last and align is their largest
-unfoldable pub memoryFits : ℕ → ℕ → ℕ → ℕ → Bool
-memoryFits last align memory bias =
+-- a memory of so many bytes and the bias fit the PT_LOADs
+unfoldable pub memoryFits : List ℕ → Headers → ℕ → ℕ → Bool
+memoryFits f h memory bias =
     eqb (memory % granule) 0
-    && (leb last memory
+    && (leb (loadsEnd f h) memory
     && (leb memory memoryLimit
-    && biasFits align memory bias))
+    && biasFits (largestAlign f h) memory bias))
 
 -- the plane is exactly one sixteenth of the memory
 unfoldable pub planeFits : ℕ → ℕ → Bool
@@ -28,7 +29,7 @@ planeFits memory plane = eqb (granule * plane) memory
 
 -- check 12, of a bias and the lengths of memory and plane
 unfoldable pub lendingFits : List ℕ → Module → ℕ → ℕ → ℕ → Bool
-lendingFits f m bias n p = memoryFits (loadsEnd f (m .headers)) (largestAlign f (m .headers)) n bias && planeFits n p
+lendingFits f m bias n p = memoryFits f (m .headers) n bias && planeFits n p
 
 unfoldable pub lendingCheck : List ℕ → Module → ℕ → ℕ → ℕ → Check
 lendingCheck f m bias n p = require (lendingFits f m bias n p) 12 0
