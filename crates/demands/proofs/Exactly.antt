@@ -2,20 +2,19 @@
 -- Assumes nothing.
 use Prim.Native.Nat.{ℕ}
 use mathlib.Core.Path.{_≡_, sym, ap, _∙_}
-use mathlib.Core.Bool.{true, _&&_}
 use mathlib.Core.List.{List}
 use Rattle.rules.specs.Outcome.{good, bad}
 use Rattle.rules.specs.Checks.{Check, runs, checked}
 use Rattle.rules.specs.Reader.{theModule, readerChecks, moduleOf}
 use Rattle.rules.specs.Relocations.{relocationsCheck}
 use Rattle.rules.specs.Examine.{factsOf, moduleChecks, examineChecks, examinedOf}
-use Rattle.rules.specs.Lending.{memoryFits, planeFits, lendingFits, lendingCheck}
+use Rattle.rules.specs.Lending.{lendingCheck}
 use Rattle.rules.specs.Addresses.{addressesCheck}
 use Rattle.rules.specs.Choices.{choicesCheck}
 use Rattle.rules.specs.Load.{Loaded, loadOf, loaded, callChecks, loadChecks}
 use Rattle.rules.specs.declared.Refusal.{Refusal}
 use Rattle.rules.specs.declared.Module.{Module}
-use Rattle.rules.proofs.OutcomeLaws.{good-bad, never, and-left, and-right, require-held, andThen-good}
+use Rattle.rules.proofs.OutcomeLaws.{good-bad, never, andThen-good}
 use Rattle.rules.proofs.ChecksLaws.{all-runs, runs-all, first-runs, runs-first}
 use Rattle.laws.proofs.Checks.{andThen-bad}
 use Rattle.laws.proofs.Stages.{examined-stages, load-stages}
@@ -64,15 +63,6 @@ module _ (f : List ℕ) (bias n p : ℕ) (choices : List ℕ) (m : Module) where
 
   pub passes-checks : Passes f bias n p choices m → runs (callChecks f m bias n p choices) ≡ good tt
   passes-checks c = all-runs (callChecks f m bias n p choices) (c .relocates, (c .lends, (c .addresses, (c .chosen, tt))))
-
-  -- memory and plane fit by themselves
-  pub passes-fits : Passes f bias n p choices m → (memoryFits f (m .headers) n bias ≡ true) × (planeFits n p ≡ true)
-  unfolding lendingCheck lendingFits
-  passes-fits c =
-      let fits = require-held (memoryFits f (m .headers) n bias && planeFits n p) 12 0 (c .lends) in (
-        and-left (memoryFits f (m .headers) n bias) (planeFits n p) fits,
-        and-right (memoryFits f (m .headers) n bias) (planeFits n p) fits,
-      )
 
 -- l is what a load of a module that passes leaves
 pub record Taken (f : List ℕ) (bias n p : ℕ) (choices : List ℕ) (l : Loaded) : Type 0 where

@@ -110,6 +110,14 @@ lent-plane : (n p : ℕ) → granule * p ≡ n → planeFits n p ≡ true
 unfolding planeFits
 lent-plane n p e = eq-eqb (granule * p) n e
 
+-- memory and plane fit by themselves
+pub lending-fits : (f : List ℕ) (m : Module) (bias n p : ℕ) → lendingCheck f m bias n p ≡ good tt
+    → (memoryFits f (m .headers) n bias ≡ true) × (planeFits n p ≡ true)
+unfolding lendingCheck lendingFits
+lending-fits f m bias n p e =
+    let b = require-held (memoryFits f (m .headers) n bias && planeFits n p) 12 0 e in
+    (and-left (memoryFits f (m .headers) n bias) (planeFits n p) b, and-right (memoryFits f (m .headers) n bias) (planeFits n p) b)
+
 pub lends : (f : List ℕ) (m : Module) (bias n p : ℕ) → loadsCheck f (m .headers) ≡ good tt → Lends f m bias n p
 unfolding lendingCheck lendingFits
 lends f m bias n p passed =
@@ -118,9 +126,7 @@ lends f m bias n p passed =
     let unfits : Fitting f h bias n → memoryFits f h n bias ≡ true = λ t. lent-memory f h n bias (fits-lent f h passed bias n t) in
     record {
       lends-if = λ t q. rw (unfits t, lent-plane n p q);
-      lends-only-if = λ e.
-          let b = require-held (memoryFits f h n bias && planeFits n p) 12 0 e in
-          (fits (and-left (memoryFits f h n bias) (planeFits n p) b), plane-lent n p (and-right (memoryFits f h n bias) (planeFits n p) b));
+      lends-only-if = λ e. let b = lending-fits f m bias n p e in (fits (b .0), plane-lent n p (b .1));
       plain-if = λ t. rw (unfits t);
       plain-only-if = λ e. fits (require-held (memoryFits f h n bias) 12 0 e);
     }

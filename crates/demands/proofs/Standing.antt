@@ -20,9 +20,9 @@ use Rattle.laws.proofs.Checks.{le-or-lt}
 use Rattle.laws.proofs.Globals.{Rising, globals-rising}
 use Rattle.laws.proofs.Places.{address-small, places-apart}
 use Rattle.laws.proofs.Writes.{Apart, writes-length, writes-at, writes-other, le-bytes}
-use Rattle.demands.proofs.Exactly.{Passes, passes-fits}
+use Rattle.demands.proofs.Exactly.{Passes}
 use Rattle.demands.proofs.Reading.{Reads, module-reads}
-use Rattle.demands.proofs.Lending.{Lent, memory-lent, plane-lent, lent-in-step}
+use Rattle.demands.proofs.Lending.{Lent, memory-lent, plane-lent, lending-fits, lent-in-step}
 use Rattle.demands.proofs.Plane.{Chosen, choices-chosen, plane-holds, plane-small}
 use Rattle.demands.proofs.Image.{image-size, image-holds}
 use Rattle.demands.proofs.Sources.{tagOf-small}
@@ -45,7 +45,7 @@ module _ (f : List ℕ) (bias n p : ℕ) (choices : List ℕ) (m : Module) where
   pub passes-stands : Passes f bias n p choices m → Stands f bias n p choices m
   passes-stands c =
       let r = module-reads f m (c .reads) in
-      let fits = passes-fits f bias n p choices m c in
+      let fits = lending-fits f m bias n p (c .lends) in
       let t = memory-lent f (m .headers) n bias (fits .0) in
       let z = image-size f (m .headers) n in
       record {

@@ -24,7 +24,8 @@ use Rattle.laws.proofs.Checks.{le-or-lt}
 use Rattle.laws.proofs.KnownTags.{entries-base}
 use Rattle.laws.proofs.Globals.{Rising}
 use Rattle.laws.proofs.Writes.{writes-length, writes-agree, writes-at, low-bytes, top-byte, bare-byte}
-use Rattle.demands.proofs.Exactly.{Passes, passes-taken, passes-fits, load-refused}
+use Rattle.demands.proofs.Exactly.{Passes, passes-taken, load-refused}
+use Rattle.demands.proofs.Lending.{lending-fits}
 use Rattle.demands.proofs.Plane.{Chosen, plane-holds, plane-empty}
 use Rattle.demands.proofs.Table.{table}
 use Rattle.demands.proofs.Refusals.{listed-one}
@@ -93,7 +94,7 @@ module _ (f : List ℕ) (bias n p : ℕ) (m : Module) where
   plain-takes choices c s =
       let r = s .reading in
       plain-module f m bias n (r .found) (r .headers) (r .loads) (passed-of (r .dynamic)) (entries-base f (m .dynamic) (r .entries))
-      (passed-of (r .relocations)) (c .relocates) (passes-fits f bias n p choices m c .0)
+      (passed-of (r .relocations)) (c .relocates) (lending-fits f m bias n p (c .lends) .0)
       (bare-checked f m (r .headers) (r .loads) bias (c .relocates) (c .addresses))
       ∙ ap good (plain-memory f m bias n (r .found)
       ∙ rw (segments-same f (m .headers) n (r .loads) (s .lent .holds) (m .headers .count) (omega arith))

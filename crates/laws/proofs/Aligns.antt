@@ -11,7 +11,7 @@ use lib.Pow.{pow-add, pow-lt}
 use lib.Dec.{eqb, ltb}
 use borrow.Author.Tests.{eqb-true, ltb-true}
 use Rattle.rules.specs.Outcome.{good}
-use Rattle.rules.specs.Segments.{headerAt, isLoad, powerBelow, aligned, alignBefore, loadsCheck}
+use Rattle.rules.specs.Segments.{headerAt, isLoad, powerBelow, aligned, alignBefore, largestAlign, loadsCheck}
 use Rattle.rules.specs.declared.Headers.{Headers}
 use Rattle.rules.proofs.OutcomeLaws.{false-true, and-left, and-right}
 use Rattle.laws.proofs.Checks.{cond-case, le-or-lt}
@@ -91,6 +91,14 @@ largest-all f h P (suc k) one each =
     (le-or-lt a x))
     (λ _. before)
 
+-- no align counts below 1
+pub align-positive : (f : List ℕ) (h : Headers) → 0 < largestAlign f h
+align-positive f h = largest-all f h (λ a. 0 < a) (h .count) (omega arith) (λ i l e. some (headerAt f h i .align))
+  where
+    some : (a : ℕ) → (a ≡ 0) ⊎ (0 < a)
+    some zero = inl refl
+    some (suc a) = inr (omega arith)
+
 -- no align is above the largest
 align-most : (f : List ℕ) (h : Headers) (k i : ℕ) → i < k → isLoad (headerAt f h i) ≡ true → headerAt f h i .align ≤ alignBefore f h k
 unfolding alignBefore
@@ -111,7 +119,7 @@ align-most f h (suc k) i l e =
     (eq-or-lt-of-le (le-of-suc-le-suc l)))
 
 -- a multiple of the largest align is a multiple of each but 0
-pub largest-each : (f : List ℕ) (h : Headers) (bias : ℕ) → loadsCheck f h ≡ good tt → alignBefore f h (h .count) ∣ bias
+pub largest-each : (f : List ℕ) (h : Headers) (bias : ℕ) → loadsCheck f h ≡ good tt → largestAlign f h ∣ bias
     → (i : ℕ) → i < h .count → isLoad (headerAt f h i) ≡ true → (headerAt f h i .align ≡ 0) ⊎ (headerAt f h i .align ∣ bias)
 largest-each f h bias passed d i l e =
     let a = headerAt f h i .align in
@@ -127,5 +135,5 @@ largest-each f h bias passed d i l e =
 -- and a multiple of each but 0 is a multiple of the largest
 pub each-largest : (f : List ℕ) (h : Headers) (bias : ℕ)
     → ((i : ℕ) → i < h .count → isLoad (headerAt f h i) ≡ true → (headerAt f h i .align ≡ 0) ⊎ (headerAt f h i .align ∣ bias))
-    → alignBefore f h (h .count) ∣ bias
+    → largestAlign f h ∣ bias
 each-largest f h bias each = largest-all f h (λ a. a ∣ bias) (h .count) (one-dvd bias) each

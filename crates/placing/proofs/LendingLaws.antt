@@ -1,16 +1,12 @@
--- A plane of one byte a granule, and the largest align.
+-- A plane of one byte a granule.
 -- Assumes nothing.
-use Prim.Native.Nat.{ℕ, zero, suc, _*_, _/_, _%_, _<_}
+use Prim.Native.Nat.{ℕ, _*_, _/_, _%_}
 use mathlib.Core.Path.{_≡_, refl, sym}
-use mathlib.Core.Bool.{Bool, true, false, cond, _&&_}
-use mathlib.Core.List.{List}
-use native.Mathlib.Nat.{le-max-left}
+use mathlib.Core.Bool.{Bool, true, false, _&&_}
 use native.Mathlib.Omega.{arith}
 use lib.Dec.{eqb}
 use borrow.Author.Tests.{eqb-true, eqb-false, eq-eqb, ne-eqb}
 use Rattle.rules.specs.Limits.{granule}
-use Rattle.rules.specs.Segments.{headerAt, isLoad, alignBefore}
-use Rattle.rules.specs.declared.Headers.{Headers}
 
 -- a memory of whole granules, whatever else is asked of it: the plane is the quotient
 pub whole-granules : (memory plane : ℕ) (rest : Bool)
@@ -24,16 +20,3 @@ whole-granules memory plane rest = go (eqb (memory % granule) 0) refl
     go : (b : Bool) → eqb (memory % granule) 0 ≡ b → ((b && rest) && eqb plane (memory / granule)) ≡ ((b && rest) && eqb (granule * plane) memory)
     go true e = let s = same (eqb-true (memory % granule) 0 e) (eqb plane (memory / granule)) refl in rw s
     go false e = refl
-
--- no align counts below 1
-pub align-positive : (f : List ℕ) (h : Headers) (i : ℕ) → 0 < alignBefore f h i
-unfolding alignBefore
-align-positive f h zero = omega arith
-align-positive f h (suc i) =
-    let before = align-positive f h i in
-    let top = le-max-left (alignBefore f h i) (headerAt f h i .align) in
-    go (isLoad (headerAt f h i)) (omega arith) before
-  where
-    go : (b : Bool) {x y : ℕ} → 0 < x → 0 < y → 0 < cond b x y
-    go true p q = p
-    go false p q = q

@@ -70,7 +70,7 @@ unfoldable pub alignBefore : List ℕ → Headers → ℕ → ℕ
 alignBefore f h zero = 1
 alignBefore f h (suc i) = cond (isLoad (headerAt f h i)) (max (alignBefore f h i) (headerAt f h i .align)) (alignBefore f h i)
 
--- the largest align of any PT_LOAD
+-- the largest align of any PT_LOAD (check 12)
 abbrev pub largestAlign : List ℕ → Headers → ℕ
 largestAlign f h = alignBefore f h (h .count)
 

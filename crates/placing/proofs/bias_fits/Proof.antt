@@ -2,14 +2,14 @@
 -- Assumes nothing.
 use borrow.Author.Needs.{needs}
 use Rattle.rules.specs.Lending.{biasFits}
-use Rattle.placing.proofs.LendingLaws.{align-positive}
+use Rattle.laws.proofs.Aligns.{align-positive}
 use Rattle.placing.proofs.bias_fits.Statement.{statement}
 use Rattle.placing.proofs.bias_fits.Tie as tie
 
 rem-both : tie.Need-rem-both
 rem-both c =
     let a = c .before .before .args in
-    rw (c .largest-align .ensures) (align-positive (a .f .now) (a .h) (a .h .count))
+    rw (c .largest-align .ensures) (align-positive (a .f .now) (a .h))
 
 returns : tie.Need-returns
 unfolding biasFits
