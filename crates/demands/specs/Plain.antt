@@ -16,8 +16,9 @@ use Rattle.rules.specs.Headers.{headerChecks, theHeaders}
 use Rattle.rules.specs.Segments.{headerAt, isLoad, loadsCheck, backingOf}
 use Rattle.rules.specs.Dynamic.{dynamicOf, symtab, baseTags, entriesCheck, entryOf}
 use Rattle.rules.specs.Tables.{relocationsOf}
-use Rattle.rules.specs.Reader.{theDynamic, theRelocations}
-use Rattle.rules.specs.Relocations.{relative, placeAt, kindAt, symbolAt, addendAt, items, positionAt, relocationsCheck}
+use Rattle.rules.specs.Packed.{packedOf}
+use Rattle.rules.specs.Reader.{theDynamic, theRelocations, thePacked}
+use Rattle.rules.specs.Relocations.{relative, placeAt, kindAt, symbolAt, addendAt, isPacked, items, positionAt, relocationsCheck}
 use Rattle.rules.specs.Lending.{memoryFits}
 use Rattle.rules.specs.declared.Headers.{Headers}
 use Rattle.rules.specs.declared.Segment.{Segment}
@@ -53,24 +54,30 @@ symbolAddress f bias (At at) = cond (eqb (le 2 f (at + 6)) 0) 0 (bias + le 8 f (
 abbrev pub operation : ℕ → ℕ → ℕ → ℤ → ℤ
 operation kind bias s a = cond (eqb kind relative) (pos bias) (pos s) +ℤ a
 
-abbrev pub bareAddress : List ℕ → Module → ℕ → ℕ → ℤ
-bareAddress f m bias i =
-    operation (kindAt f m i) bias (symbolAddress f bias (symbolEntry f (m .headers) (m .symbols) (symbolAt f m i))) (signed (addendAt f m i))
+-- of an entry; of a packed place the bias and the eight bytes that the memory with its segments holds there, which it is handed
+abbrev pub bareAddress : List ℕ → Module → ℕ → List ℕ → ℕ → ℤ
+bareAddress f m bias image i =
+    cond (isPacked m i) (pos (bias + le 8 image (placeAt f m i)))
+    (operation (kindAt f m i) bias (symbolAddress f bias (symbolEntry f (m .headers) (m .symbols) (symbolAt f m i))) (signed (addendAt f m i)))
+
+-- kind 0 is skipped; a packed place has no kind
+abbrev pub isSkipped : List ℕ → Module → ℕ → Bool
+isSkipped f m i = not (isPacked m i) && eqb (kindAt f m i) 0
 
 -- check 13: below 0, or not below 2^48
 abbrev pub offRange : ℤ → Bool
 offRange (pos x) = not (ltb x (2 ^ 48))
 offRange (negsuc x) = true
 
-unfoldable pub badBare : List ℕ → Module → ℕ → ℕ → Bool
-badBare f m bias i = not (eqb (kindAt f m i) 0) && offRange (bareAddress f m bias i)
+unfoldable pub badBare : List ℕ → Module → ℕ → List ℕ → ℕ → Bool
+badBare f m bias image i = not (isSkipped f m i) && offRange (bareAddress f m bias image i)
 
--- the relocations in table order: kind 0 is skipped, any other writes its bare address as eight bytes at its place
+-- the entries in table order, then the packed places: what is not skipped writes its bare address as eight bytes at its place
 unfoldable pub bareWords : List ℕ → Module → ℕ → List ℕ → ℕ → List ℕ
-bareWords f m bias memory zero = memory
-bareWords f m bias memory (suc k) =
-    cond (eqb (kindAt f m k) 0) (bareWords f m bias memory k)
-    (store (bareWords f m bias memory k) (placeAt f m k) (bytesOf 8 (natAbs (bareAddress f m bias k))))
+bareWords f m bias image zero = image
+bareWords f m bias image (suc k) =
+    cond (isSkipped f m k) (bareWords f m bias image k)
+    (store (bareWords f m bias image k) (placeAt f m k) (bytesOf 8 (natAbs (bareAddress f m bias image k))))
 
 -- what it knows of a file: no descriptors
 abbrev pub plainModule : List ℕ → Module
@@ -79,6 +86,7 @@ plainModule f = record {
   dynamic = theDynamic f;
   symbols = entryOf f (theDynamic f) symtab;
   relocations = theRelocations f;
+  packed = thePacked f;
   descriptors = record { at = 0; bytes = 0 };
   globals = 0;
 }
@@ -87,7 +95,11 @@ plainModule f = record {
 abbrev pub plainLending : List ℕ → Module → ℕ → ℕ → Check
 plainLending f m bias n = require (memoryFits f (m .headers) n bias) 12 0
 
--- checks 1 to 7 and 10 to 13 in their order, where the five memtag tags are unknown
+-- its memory before relocation
+abbrev pub plainImage : List ℕ → Module → ℕ → List ℕ
+plainImage f m n = segmentsOf f (m .headers) n (m .headers .count)
+
+-- checks 1 to 7, 15 and 10 to 13 in this order, where the five memtag tags are unknown
 abbrev pub plainChecks : List ℕ → Module → ℕ → ℕ → List Check
 plainChecks f m bias n =
     headerChecks f
@@ -95,14 +107,15 @@ plainChecks f m bias n =
     ∷ passed (dynamicOf f (m .headers))
     ∷ entriesCheck baseTags f (m .dynamic)
     ∷ passed (relocationsOf f (m .headers) (m .dynamic))
+    ∷ passed (packedOf f (m .headers) (m .dynamic) (m .relocations))
     ∷ relocationsCheck f m
     ∷ plainLending f m bias n
-    ∷ faultsAt 13 (positionAt m) (badBare f m bias) (items m)
+    ∷ faultsAt 13 (positionAt f m) (badBare f m bias (plainImage f m n)) (items m)
     ∷ [])
 
 -- then segments and words
 abbrev pub plainMemory : List ℕ → Module → ℕ → ℕ → List ℕ
-plainMemory f m bias n = bareWords f m bias (segmentsOf f (m .headers) n (m .headers .count)) (items m)
+plainMemory f m bias n = bareWords f m bias (plainImage f m n) (items m)
 
 unfoldable pub plainOf : List ℕ → ℕ → ℕ → Outcome (List ℕ)
 plainOf f bias n = checked (plainChecks f (plainModule f) bias n) (plainMemory f (plainModule f) bias n)

@@ -19,30 +19,30 @@ use Rattle.rules.proofs.OutcomeLaws.{andThen-good, require-held}
 use Rattle.laws.proofs.Checks.{first-prefix, faultless-all, all-faultless, some-all, all-some}
 
 -- the rows of ELF64 come first
-row-base : (r : ℕ) → r < 8 → rowAt knownTags r ≡ rowAt baseTags r
-row-base r h = List·getD-append baseTags (drop 8 knownTags) (row 0 0 Any) r h
+row-base : (r : ℕ) → r < 10 → rowAt knownTags r ≡ rowAt baseTags r
+row-base r h = List·getD-append baseTags (drop 10 knownTags) (row 0 0 Any) r h
 
-rowOf-base : (tag : ℕ) → rowOf baseTags tag < 8 → rowOf knownTags tag ≡ rowOf baseTags tag
+rowOf-base : (tag : ℕ) → rowOf baseTags tag < 10 → rowOf knownTags tag ≡ rowOf baseTags tag
 unfolding rowOf isRow
 rowOf-base tag h =
-    let same : first (isRow knownTags tag) 0 8 ≡ first (isRow baseTags tag) 0 8 =
-    first-same _ _ 8 0 (λ j l u. ap (λ (k : Known). eqb (k .tag) tag) (row-base j (omega arith))) in
-    first-prefix (isRow knownTags tag) 8 5 0 (rw same h) ∙ same
+    let same : first (isRow knownTags tag) 0 10 ≡ first (isRow baseTags tag) 0 10 =
+    first-same _ _ 10 0 (λ j l u. ap (λ (k : Known). eqb (k .tag) tag) (row-base j (omega arith))) in
+    first-prefix (isRow knownTags tag) 10 5 0 (rw same h) ∙ same
 
 entry-base : (f : List ℕ) (d : Dynamic) (i : ℕ) → badEntry knownTags f d i ≡ false → badEntry baseTags f d i ≡ false
 unfolding badEntry
-entry-base f d i h = go (ltb (rowOf baseTags (tagAt f d i)) 8) refl
+entry-base f d i h = go (ltb (rowOf baseTags (tagAt f d i)) 10) refl
   where
-    go : (b : Bool) → ltb (rowOf baseTags (tagAt f d i)) 8 ≡ b → badEntry baseTags f d i ≡ false
+    go : (b : Bool) → ltb (rowOf baseTags (tagAt f d i)) 10 ≡ b → badEntry baseTags f d i ≡ false
     go false e = rw e
     go true e =
-        let l : rowOf baseTags (tagAt f d i) < 8 = ltb-true (rowOf baseTags (tagAt f d i)) 8 e in
+        let l : rowOf baseTags (tagAt f d i) < 10 = ltb-true (rowOf baseTags (tagAt f d i)) 10 e in
         let q = rowOf-base (tagAt f d i) l in
         let r = row-base (rowOf baseTags (tagAt f d i)) l in
-        let w = lt-ltb (rowOf baseTags (tagAt f d i)) 13 (omega arith) in
+        let w = lt-ltb (rowOf baseTags (tagAt f d i)) 15 (omega arith) in
         rw (e, ← r) (rw (q, w) at h)
 
-partner-base : (f : List ℕ) (d : Dynamic) (r : ℕ) → r < 8 → partnerless knownTags f d r ≡ false → partnerless baseTags f d r ≡ false
+partner-base : (f : List ℕ) (d : Dynamic) (r : ℕ) → r < 10 → partnerless knownTags f d r ≡ false → partnerless baseTags f d r ≡ false
 unfolding partnerless
 partner-base f d r l h = rw (row-base r l) at h
 
@@ -52,6 +52,6 @@ entries-base f d h =
     let a = andThen-good (faultless 6 (badEntry knownTags f d) (d .entries)) _ h in
     let e = all-faultless (badEntry baseTags f d) 6 (d .entries) (λ j l.
     entry-base f d j (faultless-all (badEntry knownTags f d) 6 (d .entries) (a .here) j l)) in
-    let s = not-true (someBelow (partnerless knownTags f d) 13) (require-held _ 6 (d .entries) (a .rest)) in
-    let t = all-some (partnerless baseTags f d) 8 (λ r l. partner-base f d r l (some-all (partnerless knownTags f d) 13 s r (omega arith))) in
+    let s = not-true (someBelow (partnerless knownTags f d) 15) (require-held _ 6 (d .entries) (a .rest)) in
+    let t = all-some (partnerless baseTags f d) 10 (λ r l. partner-base f d r l (some-all (partnerless knownTags f d) 15 s r (omega arith))) in
     rw (e, t)

@@ -34,7 +34,7 @@ module _ (f : List ℕ) (m : Module) where
   pub address-ranged : (bias : ℕ) → addressesCheck f m bias ≡ good tt → (k : ℕ) → k < items m → live f m k ≡ true
       → outOfRange (addressAt f m bias k) ≡ false
   unfolding addressesCheck badAddress
-  address-ranged bias e k l t = and-false (live f m k) _ (faults-all (badAddress f m bias) 13 (positionAt m) (items m) e k l) t
+  address-ranged bias e k l t = and-false (live f m k) _ (faults-all (badAddress f m bias) 13 (positionAt f m) (items m) e k l) t
 
   pub address-small : (bias : ℕ) → addressesCheck f m bias ≡ good tt → (k : ℕ) → k < items m → live f m k ≡ true
       → natural (addressAt f m bias k) < addressLimit

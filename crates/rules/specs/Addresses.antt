@@ -1,4 +1,4 @@
--- Check 13: the address of each relocated word, the column Address of the table of kinds.
+-- Check 13: the address of each relocated word, the column Address of the table of kinds; of a packed place, bias and loaded bytes.
 -- Assumes nothing.
 use Prim.Native.Nat.{ℕ, _+_}
 use mathlib.Core.Bool.{Bool, true, _&&_}
@@ -43,4 +43,4 @@ unfoldable pub badAddress : List ℕ → Module → ℕ → ℕ → Bool
 badAddress f m bias i = live f m i && outOfRange (addressAt f m bias i)
 
 unfoldable pub addressesCheck : List ℕ → Module → ℕ → Check
-addressesCheck f m bias = faultsAt 13 (positionAt m) (badAddress f m bias) (items m)
+addressesCheck f m bias = faultsAt 13 (positionAt f m) (badAddress f m bias) (items m)

@@ -12,6 +12,7 @@ use Rattle.rules.specs.Addresses.{outOfRange, natural}
 use Rattle.rules.specs.declared.Headers.{Headers}
 use Rattle.rules.specs.declared.Dynamic.{Dynamic}
 use Rattle.rules.specs.declared.Relocations.{Relocations}
+use Rattle.rules.specs.declared.Packed.{Packed}
 use Rattle.rules.specs.declared.Descriptors.{Descriptors}
 use Rattle.rules.specs.declared.Global.{Global}
 use Rattle.rules.specs.declared.Module.{Module}
@@ -26,6 +27,8 @@ use Rattle.rules.specs.declared.RelocationsAnswer.{RelocationsAnswer}
 use Rattle.rules.specs.declared.RelocationsAnswer.the-variants as relocations
 use Rattle.rules.specs.declared.DescriptorsAnswer.{DescriptorsAnswer}
 use Rattle.rules.specs.declared.DescriptorsAnswer.the-variants as descriptors
+use Rattle.rules.specs.declared.PackedAnswer.{PackedAnswer}
+use Rattle.rules.specs.declared.PackedAnswer.the-variants as packed
 use Rattle.rules.specs.declared.Step.{Step}
 use Rattle.rules.specs.declared.Step.the-variants as step
 use Rattle.rules.specs.declared.GlobalsAnswer.{GlobalsAnswer}
@@ -61,6 +64,10 @@ ofRelocations (relocations.Refused r) = bad r
 abbrev pub ofDescriptors : DescriptorsAnswer → Outcome Descriptors
 ofDescriptors (descriptors.Found t) = good t
 ofDescriptors (descriptors.Refused r) = bad r
+
+abbrev pub ofPacked : PackedAnswer → Outcome Packed
+ofPacked (packed.Found t) = good t
+ofPacked (packed.Refused r) = bad r
 
 abbrev pub ofStep : Step → Outcome Read
 ofStep step.Finished = good finished

@@ -19,7 +19,7 @@ use Rattle.rules.specs.declared.Dynamic.{Dynamic}
 use Rattle.rules.specs.declared.Entry.{Entry}
 use Rattle.rules.specs.declared.Entry.the-variants as entry
 use Rattle.rules.specs.declared.Allowed.{Allowed}
-use Rattle.rules.specs.declared.Allowed.the-variants.{Any, Exactly24, Multiple24, Flag, Never}
+use Rattle.rules.specs.declared.Allowed.the-variants.{Any, Exactly24, Multiple24, Exactly8, Multiple8, Flag, Never}
 use Rattle.rules.specs.declared.Known.{Known}
 
 -- the first PT_DYNAMIC of the n headers from i on, or i + n
@@ -72,7 +72,7 @@ tagAt f d i = le 8 f (d .at + 16 * i)
 abbrev pub valueAt : List ℕ → Dynamic → ℕ → ℕ
 valueAt f d i = le 8 f (d .at + 16 * i + 8)
 
--- the tags of ELF64 that we know: the symbol table, RELA; REL, JMPREL and RELR
+-- the tags of ELF64 that we know: the symbol table, RELA; REL and JMPREL; RELR, the packed relocations
 abbrev pub symtab : ℕ
 symtab = 6
 
@@ -97,6 +97,12 @@ jmprel = 23
 abbrev pub relr : ℕ
 relr = 36
 
+abbrev pub relrsz : ℕ
+relrsz = 35
+
+abbrev pub relrent : ℕ
+relrent = 37
+
 -- and of the Memtag ABI: mode, heap, stack, and the descriptor table's address and bytes
 abbrev pub memtagMode : ℕ
 memtagMode = 0x70000009
@@ -117,12 +123,13 @@ memtagGlobalsSize = 0x7000000f
 abbrev pub row : ℕ → ℕ → Allowed → Known
 row tag group allowed = record { tag = tag; group = group; allowed = allowed }
 
--- the rows of ELF64; REL, JMPREL and RELR are never allowed
+-- the rows of ELF64; REL and JMPREL are never allowed
 abbrev pub baseTags : List Known
 baseTags =
     row symtab symtab Any ∷ row syment symtab Exactly24
     ∷ row rela rela Any ∷ row relasz rela Multiple24 ∷ row relaent rela Exactly24
-    ∷ row rel rel Never ∷ row jmprel jmprel Never ∷ row relr relr Never ∷ []
+    ∷ row rel rel Never ∷ row jmprel jmprel Never
+    ∷ row relr relr Any ∷ row relrsz relr Multiple8 ∷ row relrent relr Exactly8 ∷ []
 
 -- and the five of the Memtag ABI
 abbrev pub knownTags : List Known
@@ -140,6 +147,8 @@ abbrev pub allows : Allowed → ℕ → Bool
 allows Any v = true
 allows Exactly24 v = eqb v 24
 allows Multiple24 v = eqb (v % 24) 0
+allows Exactly8 v = eqb v 8
+allows Multiple8 v = eqb (v % 8) 0
 allows Flag v = ltb v 2
 allows Never v = false
 

@@ -1,4 +1,4 @@
--- The facts of a module; examine: checks 1 to 11, and the facts.
+-- The facts of a module; examine: every check before 12, and the facts.
 -- Assumes nothing.
 use Prim.Native.Nat.{ℕ}
 use mathlib.Core.Bool.{cond}
@@ -42,7 +42,7 @@ factsOf f m = record {
 abbrev pub moduleChecks : List ℕ → Module → List Check
 moduleChecks f m = relocationsCheck f m ∷ []
 
--- checks 1 to 11 in their order
+-- the reader's checks, then 10 and 11
 abbrev pub examineChecks : List ℕ → List Check
 examineChecks f = readerChecks f ++ moduleChecks f (theModule f)
 

@@ -7,6 +7,7 @@ pub mod Headers
 pub mod Segments
 pub mod Dynamic
 pub mod Tables
+pub mod Packed
 pub mod Descriptors
 pub mod Reader
 pub mod Relocations

@@ -21,7 +21,7 @@ headerLimit = 16
 abbrev pub dynamicLimit : ℕ
 dynamicLimit = 4096
 
--- relocation entries (check 7)
+-- relocation entries (check 7); entries and packed places together (check 15)
 abbrev pub entryLimit : ℕ
 entryLimit = 1024
 

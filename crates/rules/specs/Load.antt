@@ -1,4 +1,4 @@
--- The load: checks 1 to 14 in their order, and what it answers and leaves.
+-- The load: checks 1 to 7, 15, 8 to 14, in this order, and what it answers and leaves.
 -- Assumes nothing.
 use Prim.Native.Nat.{ℕ}
 use mathlib.Core.List.{List, [], _∷_, _++_}
@@ -48,7 +48,7 @@ lentChecks f m bias n p choices =
 abbrev pub callChecks : List ℕ → Module → ℕ → ℕ → ℕ → List ℕ → List Check
 callChecks f m bias n p choices = moduleChecks f m ++ lentChecks f m bias n p choices
 
--- checks 1 to 14 in their order
+-- the reader's checks, then 10 to 14
 abbrev pub loadChecks : List ℕ → ℕ → ℕ → ℕ → List ℕ → List Check
 loadChecks f bias n p choices = readerChecks f ++ callChecks f (theModule f) bias n p choices
 

@@ -1,4 +1,4 @@
--- The reader as a whole: checks 1 to 9 in their order, and the module that they find.
+-- The reader as a whole: checks 1 to 7, 15, 8 and 9, in this order, and the module that they find.
 -- Assumes nothing.
 use Prim.Native.Nat.{ℕ}
 use mathlib.Core.List.{List, [], _∷_, _++_}
@@ -9,9 +9,11 @@ use Rattle.rules.specs.Headers.{headerChecks, theHeaders}
 use Rattle.rules.specs.Segments.{loadsCheck}
 use Rattle.rules.specs.Dynamic.{dynamicOf, symtab, knownTags, entriesCheck, entryOf}
 use Rattle.rules.specs.Tables.{relocationsOf, descriptorsOf}
+use Rattle.rules.specs.Packed.{packedOf}
 use Rattle.rules.specs.Descriptors.{globalsOf, globalsListed}
 use Rattle.rules.specs.declared.Dynamic.{Dynamic}
 use Rattle.rules.specs.declared.Relocations.{Relocations}
+use Rattle.rules.specs.declared.Packed.{Packed}
 use Rattle.rules.specs.declared.Descriptors.{Descriptors}
 use Rattle.rules.specs.declared.Module.{Module}
 
@@ -22,6 +24,9 @@ theDynamic f = found (record { at = 0; entries = 0 }) (dynamicOf f (theHeaders f
 abbrev pub theRelocations : List ℕ → Relocations
 theRelocations f = found (record { at = 0; entries = 0 }) (relocationsOf f (theHeaders f) (theDynamic f))
 
+abbrev pub thePacked : List ℕ → Packed
+thePacked f = found (record { at = 0; words = 0; places = 0 }) (packedOf f (theHeaders f) (theDynamic f) (theRelocations f))
+
 abbrev pub theDescriptors : List ℕ → Descriptors
 theDescriptors f = found (record { at = 0; bytes = 0 }) (descriptorsOf f (theHeaders f) (theDynamic f))
 
@@ -31,11 +36,12 @@ theModule f = record {
   dynamic = theDynamic f;
   symbols = entryOf f (theDynamic f) symtab;
   relocations = theRelocations f;
+  packed = thePacked f;
   descriptors = theDescriptors f;
   globals = length (globalsListed f (theHeaders f) (theDescriptors f));
 }
 
--- check 5; check 7 of each table; checks 8 and 9, one walk
+-- check 5; check 7 of each table; check 15; checks 8 and 9, one walk
 abbrev pub dynamicCheck : List ℕ → Check
 dynamicCheck f = passed (dynamicOf f (theHeaders f))
 
@@ -45,10 +51,13 @@ relocationTableCheck f = passed (relocationsOf f (theHeaders f) (theDynamic f))
 abbrev pub descriptorTableCheck : List ℕ → Check
 descriptorTableCheck f = passed (descriptorsOf f (theHeaders f) (theDynamic f))
 
+abbrev pub packedCheck : List ℕ → Check
+packedCheck f = passed (packedOf f (theHeaders f) (theDynamic f) (theRelocations f))
+
 abbrev pub globalsCheck : List ℕ → Check
 globalsCheck f = passed (globalsOf f (theHeaders f) (theDescriptors f))
 
--- checks 1 to 9 in their order
+-- checks 1 to 7, 15, 8 and 9, in this order
 abbrev pub readerChecks : List ℕ → List Check
 readerChecks f =
     headerChecks f
@@ -57,6 +66,7 @@ readerChecks f =
     ∷ entriesCheck knownTags f (theDynamic f)
     ∷ relocationTableCheck f
     ∷ descriptorTableCheck f
+    ∷ packedCheck f
     ∷ globalsCheck f
     ∷ [])
 

@@ -1,6 +1,6 @@
 -- Checks 10 and 11: what is relocated, kinds, symbols and places.
 -- Assumes nothing.
-use Prim.Native.Nat.{ℕ, _+_, _*_, _/_, _%_}
+use Prim.Native.Nat.{ℕ, _+_, _*_, _-_, _/_, _%_}
 use mathlib.Core.Bool.{Bool, true, false, cond, not, _&&_, _||_}
 use mathlib.Core.List.{List}
 use lib.ListN.{getD}
@@ -11,6 +11,8 @@ use Rattle.rules.specs.Limits.{memoryLimit}
 use Rattle.rules.specs.Bytes.{le}
 use Rattle.rules.specs.First.{first, someBelow, countBelow}
 use Rattle.rules.specs.Segments.{backingOf, inMemory}
+use Rattle.rules.specs.Packed.{Named, named, packedBefore}
+use Rattle.rules.specs.Image.{loadedAt}
 use Rattle.rules.specs.declared.Headers.{Headers}
 use Rattle.rules.specs.declared.Backing.{Backing}
 use Rattle.rules.specs.declared.Backing.the-variants as backing
@@ -32,35 +34,44 @@ globDat = 1025
 abbrev pub relative : ℕ
 relative = 1027
 
--- ---- items: what is relocated, each by its index; today the entries of the RELA table
+-- ---- items: what is relocated, each by its index: the entries of the RELA table, then the packed places
 
--- where entry i of the table stands in the file
+-- where entry i of the RELA table stands in the file
 abbrev pub entryAt : Relocations → ℕ → ℕ
 entryAt r i = r .at + 24 * i
 
--- an item's place, kind, symbol and addend
-abbrev pub placeAt : List ℕ → Module → ℕ → ℕ
-placeAt f m i = le 8 f (entryAt (m .relocations) i)
-
+-- an entry's kind and symbol
 abbrev pub kindAt : List ℕ → Module → ℕ → ℕ
 kindAt f m i = le 4 f (entryAt (m .relocations) i + 8)
 
 abbrev pub symbolAt : List ℕ → Module → ℕ → ℕ
 symbolAt f m i = le 4 f (entryAt (m .relocations) i + 12)
 
-abbrev pub addendAt : List ℕ → Module → ℕ → ℕ
-addendAt f m i = le 8 f (entryAt (m .relocations) i + 16)
+-- an item is a packed place; then it is this one
+abbrev pub isPacked : Module → ℕ → Bool
+isPacked m i = leb (m .relocations .entries) i
 
--- kind 0 is skipped unread
-abbrev pub live : List ℕ → Module → ℕ → Bool
-live f m i = not (eqb (kindAt f m i) 0)
+abbrev pub packedItem : List ℕ → Module → ℕ → Named
+packedItem f m i = getD (packedBefore f (m .packed .at) (m .packed .words)) (i - m .relocations .entries) (named 0 0)
 
--- how many items there are, and the position at which one is reported
+-- an item's place and addend; a packed place has none
+unfoldable pub placeAt : List ℕ → Module → ℕ → ℕ
+placeAt f m i = cond (isPacked m i) (packedItem f m i .place) (le 8 f (entryAt (m .relocations) i))
+
+unfoldable pub addendAt : List ℕ → Module → ℕ → ℕ
+addendAt f m i = cond (isPacked m i) 0 (le 8 f (entryAt (m .relocations) i + 16))
+
+-- an entry of kind 0 is skipped unread
+unfoldable pub live : List ℕ → Module → ℕ → Bool
+live f m i = isPacked m i || not (eqb (kindAt f m i) 0)
+
+-- how many items there are, and the position at which one is reported: an entry's index; of a packed place the number of entries
+-- and its word's index
 abbrev pub items : Module → ℕ
-items m = m .relocations .entries
+items m = m .relocations .entries + m .packed .places
 
-abbrev pub positionAt : Module → ℕ → ℕ
-positionAt m i = i
+unfoldable pub positionAt : List ℕ → Module → ℕ → ℕ
+positionAt f m i = cond (isPacked m i) (m .relocations .entries + packedItem f m i .word) i
 
 -- ---- targets
 
@@ -94,9 +105,11 @@ target f h symbols kind symbol =
     (cond (eqb symbol 0) Barred (namedTarget f (symbolBacking f h symbol symbols)))
     Barred)
 
--- the target of an item
-abbrev pub targetAt : List ℕ → Module → ℕ → Target
-targetAt f m i = target f (m .headers) (m .symbols) (kindAt f m i) (symbolAt f m i)
+-- the target of an item; a packed place's loaded bytes say it, as a symbol's value does
+unfoldable pub targetAt : List ℕ → Module → ℕ → Target
+targetAt f m i =
+    cond (isPacked m i) (Defined (loadedAt f (m .headers) (placeAt f m i)))
+    (target f (m .headers) (m .symbols) (kindAt f m i) (symbolAt f m i))
 
 abbrev pub barred : Target → Bool
 barred Base = false
@@ -138,7 +151,7 @@ firstBad f m = first (badRelocation f m) 0 (items m)
 unfoldable pub relocationsCheck : List ℕ → Module → Check
 relocationsCheck f m =
     cond (eqb (firstBad f m) (items m)) (good tt)
-    (refuse (cond (barred (targetAt f m (firstBad f m))) 10 11) (positionAt m (firstBad f m)))
+    (refuse (cond (barred (targetAt f m (firstBad f m))) 10 11) (positionAt f m (firstBad f m)))
 
 -- the words relocated: items not skipped
 unfoldable pub wordsOf : List ℕ → Module → ℕ

@@ -1,4 +1,4 @@
--- Check 7: the relocation and descriptor tables.
+-- Check 7: the relocation and descriptor tables; and where any table is backed.
 -- Assumes nothing.
 use Prim.Native.Nat.{ℕ, _/_}
 use mathlib.Core.Bool.{cond}
@@ -7,7 +7,7 @@ use lib.Dec.{leb, eqb}
 use Rattle.rules.specs.Outcome.{Outcome, good, refuse, andThen, require}
 use Rattle.rules.specs.Limits.{entryLimit}
 use Rattle.rules.specs.Segments.{backingOf}
-use Rattle.rules.specs.Dynamic.{rela, relasz, memtagGlobals, memtagGlobalsSize, entryOf}
+use Rattle.rules.specs.Dynamic.{rela, relasz, relr, relrsz, memtagGlobals, memtagGlobalsSize, entryOf}
 use Rattle.rules.specs.declared.Headers.{Headers}
 use Rattle.rules.specs.declared.Backing.{Backing}
 use Rattle.rules.specs.declared.Backing.the-variants.{At, Nowhere}
@@ -26,16 +26,22 @@ orZero (Value v) = v
 unfoldable pub tableBacking : List ℕ → Headers → ℕ → ℕ → Backing
 tableBacking f h address bytes = cond (eqb bytes 0) (At 0) (backingOf f h address bytes)
 
--- check 7, refused at a position where the table is not backed
-abbrev pub backed : ℕ → Backing → Outcome ℕ
-backed position Nowhere = refuse 7 position
-backed position (At at) = good at
+-- refused with a number at a position where the table is not backed
+abbrev pub backed : ℕ → ℕ → Backing → Outcome ℕ
+backed number position Nowhere = refuse number position
+backed number position (At at) = good at
 
 abbrev pub relaAddress : List ℕ → Dynamic → ℕ
 relaAddress f d = orZero (entryOf f d rela)
 
 abbrev pub relaBytes : List ℕ → Dynamic → ℕ
 relaBytes f d = orZero (entryOf f d relasz)
+
+abbrev pub packedAddress : List ℕ → Dynamic → ℕ
+packedAddress f d = orZero (entryOf f d relr)
+
+abbrev pub packedBytes : List ℕ → Dynamic → ℕ
+packedBytes f d = orZero (entryOf f d relrsz)
 
 abbrev pub descriptorAddress : List ℕ → Dynamic → ℕ
 descriptorAddress f d = orZero (entryOf f d memtagGlobals)
@@ -46,12 +52,12 @@ descriptorBytes f d = orZero (entryOf f d memtagGlobalsSize)
 -- check 7: the relocation table not backed or of over 1,024 entries
 unfoldable pub relocationsOf : List ℕ → Headers → Dynamic → Outcome Relocations
 relocationsOf f h d =
-    andThen (backed 0 (tableBacking f h (relaAddress f d) (relaBytes f d))) (λ at.
+    andThen (backed 7 0 (tableBacking f h (relaAddress f d) (relaBytes f d))) (λ at.
     andThen (require (leb (relaBytes f d / 24) entryLimit) 7 0) (λ _.
     good (record { at = at; entries = relaBytes f d / 24 })))
 
 -- then the descriptor table not backed
 unfoldable pub descriptorsOf : List ℕ → Headers → Dynamic → Outcome Descriptors
 descriptorsOf f h d =
-    andThen (backed 1 (tableBacking f h (descriptorAddress f d) (descriptorBytes f d))) (λ at.
+    andThen (backed 7 1 (tableBacking f h (descriptorAddress f d) (descriptorBytes f d))) (λ at.
     good (record { at = at; bytes = descriptorBytes f d }))

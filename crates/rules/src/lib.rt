@@ -19,7 +19,7 @@ pub const HEADER_LIMIT: u32 = 16;
 // Bytes of PT_DYNAMIC.
 pub const DYNAMIC_LIMIT: u64 = 4096;
 
-// Relocation entries.
+// Relocation entries, and with them packed places.
 pub const ENTRY_LIMIT: usize = 1024;
 
 // Descriptors.
@@ -56,6 +56,10 @@ pub const DT_REL: u64 = 17;
 pub const DT_JMPREL: u64 = 23;
 
 pub const DT_RELR: u64 = 36;
+
+pub const DT_RELRSZ: u64 = 35;
+
+pub const DT_RELRENT: u64 = 37;
 
 pub const DT_MEMTAG_MODE: u64 = 0x70000009;
 
@@ -119,6 +123,8 @@ pub enum Allowed {
     Any,
     Exactly24,
     Multiple24,
+    Exactly8,
+    Multiple8,
     Flag,
     Never,
 }
@@ -134,6 +140,13 @@ pub struct Known {
 pub struct Relocations {
     pub at: u32,
     pub entries: u32,
+}
+
+// Where the packed table stands in the file, how many words it has, and how many places they stand for.
+pub struct Packed {
+    pub at: u32,
+    pub words: u32,
+    pub places: u32,
 }
 
 // Where the descriptor table stands in the file, and how many bytes it has.
@@ -162,12 +175,13 @@ pub struct Reading {
     pub end: u64,
 }
 
-// What the ELF reader finds in a file that passes checks 1 to 9. The symbol table is known by its address.
+// What the ELF reader finds in a file that passes checks 1 to 7, 15, 8 and 9. The symbol table is known by its address.
 pub struct Module {
     pub headers: Headers,
     pub dynamic: Dynamic,
     pub symbols: Entry,
     pub relocations: Relocations,
+    pub packed: Packed,
     pub descriptors: Descriptors,
     pub globals: u32,
 }
@@ -183,7 +197,7 @@ pub struct Symbol {
 pub enum Target {
     // RELATIVE: the bias.
     Base,
-    // ABS64 and GLOB_DAT: the bias and the symbol's value.
+    // ABS64 and GLOB_DAT: the bias and the symbol's value. A packed place: the bias and its loaded bytes.
     Defined(u64),
     // A weak undefined symbol.
     Undefined,
@@ -243,6 +257,12 @@ pub enum DescriptorsAnswer {
     Refused(Refusal),
 }
 
+// The answer of check 15.
+pub enum PackedAnswer {
+    Found(Packed),
+    Refused(Refusal),
+}
+
 // What reading one descriptor finds: the table's end, or a global and the moved cursor.
 pub enum Step {
     Finished,
@@ -262,23 +282,23 @@ pub enum TableAnswer {
     Refused(Refusal),
 }
 
-// The answer of the ELF reader, checks 1 to 9.
+// The answer of the ELF reader, checks 1 to 7, 15, 8 and 9.
 pub enum ModuleAnswer {
     Found(Module),
     Refused(Refusal),
 }
 
-// The answer of examine, checks 1 to 11, and of the load, checks 1 to 14.
+// The answer of examine and of the load.
 pub enum Answer {
     Taken(Facts),
     Refused(Refusal),
 }
 
-// What the walk of the relocation entries finds besides: how many words are relocated, and the first entry whose address is
-// out of range, or the number of entries where there is none.
+// What the walk of what is relocated finds besides: how many words there are, and one more than the position of the first address
+// out of range, or 0 where there is none.
 pub struct Walked {
     pub words: u32,
-    pub outside: u32,
+    pub outside: u64,
 }
 
 // The answer of checks 10 and 11.
