@@ -1,0 +1,114 @@
+use native.Mathlib.Omega.{arith}
+use borrow.Author.Needs.{needs}
+use Rattle.places.proofs.next_place.Statement.{statement}
+use Rattle.places.proofs.next_place.Tie as tie
+use Rattle.places.proofs.next_place.Reads as reads
+use Rattle.places.proofs.next_place.Lts as lts
+use Rattle.places.proofs.word_at.Reads as word-at-reads
+use Rattle.std.proofs.num.wrapping_add_u64.Reads as wrapping-add-u64-reads
+
+abbrev Inv-loop : tie.InvT-loop
+Inv-loop f at words₀ rest₀ left₀ place₀ words rest left place = ?
+
+abbrev μ-loop : tie.MeasureT-loop
+μ-loop f at words₀ rest₀ left₀ place₀ words rest left place = ?
+
+abbrev Inv-loop2 : tie.InvT-loop2
+Inv-loop2 f at words rest₀ left₀ place₀ rest left place = ?
+
+abbrev μ-loop2 : tie.MeasureT-loop2
+μ-loop2 f at words rest₀ left₀ place₀ rest left place = ?
+
+-- src/lib.rt:54:5
+loop-holds : tie.Need-loop-holds Inv-loop μ-loop Inv-loop2 μ-loop2
+loop-holds c = search needs
+
+-- src/lib.rt:55:13
+word-at-requires : tie.Need-word-at-requires Inv-loop μ-loop Inv-loop2 μ-loop2
+word-at-requires c κs = search needs
+
+-- src/lib.rt:56:27
+mul-run : tie.Need-mul-run Inv-loop μ-loop Inv-loop2 μ-loop2
+mul-run c = search needs
+
+-- src/lib.rt:56:19
+add-run : tie.Need-add-run Inv-loop μ-loop Inv-loop2 μ-loop2
+add-run c = search needs
+
+-- src/lib.rt:57:9
+add-words : tie.Need-add-words Inv-loop μ-loop Inv-loop2 μ-loop2
+add-words c = search needs
+
+-- src/lib.rt:63:21
+wrapping-add-u64-requires : tie.Need-wrapping-add-u64-requires Inv-loop μ-loop Inv-loop2 μ-loop2
+wrapping-add-u64-requires c κs = search needs
+
+-- src/lib.rt:59:13
+returns : tie.Need-returns Inv-loop μ-loop Inv-loop2 μ-loop2
+returns c = search needs
+
+-- src/lib.rt:54:5
+loop-less : tie.Need-loop-less Inv-loop μ-loop Inv-loop2 μ-loop2
+loop-less c = search needs
+
+-- src/lib.rt:54:5
+loop-again : tie.Need-loop-again Inv-loop μ-loop Inv-loop2 μ-loop2
+loop-again c = search needs
+
+-- src/lib.rt:71:5
+loop2-holds : tie.Need-loop2-holds Inv-loop μ-loop Inv-loop2 μ-loop2
+loop2-holds c = search needs
+
+-- src/lib.rt:73:9
+sub-left : tie.Need-sub-left Inv-loop μ-loop Inv-loop2 μ-loop2
+sub-left c = search needs
+
+-- src/lib.rt:74:9
+add-place : tie.Need-add-place Inv-loop μ-loop Inv-loop2 μ-loop2
+add-place c = search needs
+
+-- src/lib.rt:71:5
+loop2-less : tie.Need-loop2-less Inv-loop μ-loop Inv-loop2 μ-loop2
+loop2-less c = search needs
+
+-- src/lib.rt:71:5
+loop2-again : tie.Need-loop2-again Inv-loop μ-loop Inv-loop2 μ-loop2
+loop2-again c = search needs
+
+-- src/lib.rt:79:15
+sub-t17 : tie.Need-sub-t17 Inv-loop μ-loop Inv-loop2 μ-loop2
+sub-t17 c = search needs
+
+-- src/lib.rt:80:13
+add-t18 : tie.Need-add-t18 Inv-loop μ-loop Inv-loop2 μ-loop2
+add-t18 c = search needs
+
+-- src/lib.rt:45:1
+returns-2 : tie.Need-returns-2 Inv-loop μ-loop Inv-loop2 μ-loop2
+returns-2 c = search needs
+
+pub next-place-spec : {M : Type 1} → statement M
+next-place-spec =
+    tie.close
+    (tie.spec
+    Inv-loop
+    μ-loop
+    Inv-loop2
+    μ-loop2
+    loop-holds
+    word-at-requires
+    mul-run
+    add-run
+    add-words
+    wrapping-add-u64-requires
+    returns
+    loop-less
+    loop-again
+    loop2-holds
+    sub-left
+    add-place
+    loop2-less
+    loop2-again
+    sub-t17
+    add-t18
+    returns-2)
