@@ -1,4 +1,7 @@
 pub mod Lowest
+pub mod Packed
+pub mod PackedFaults
+pub mod Items
 pub mod Table
 pub mod Exactly
 pub mod Reading

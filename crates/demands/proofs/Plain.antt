@@ -5,7 +5,7 @@ use mathlib.Core.Path.{_≡_, refl, sym, ap, _∙_}
 use mathlib.Core.Bool.{Bool, true, false, cond, not, _&&_, _||_}
 use mathlib.Core.List.{List}
 use mathlib.Core.Logic.{⊎-elim}
-use native.Mathlib.Nat.{zero-add}
+use native.Mathlib.Nat.{zero-add, add-zero}
 use native.Mathlib.Omega.{arith}
 use lib.ListN.{length, replicate, length-replicate}
 use lib.Dec.{leb, eqb}
@@ -19,15 +19,16 @@ use Rattle.rules.specs.First.{faultsAt}
 use Rattle.rules.specs.Memory.{bytesOf, putWord, signed}
 use Rattle.rules.specs.Headers.{headerChecks, headersOf}
 use Rattle.rules.specs.Segments.{headerAt, isLoad, loadsCheck, loadsEnd}
-use Rattle.rules.specs.Relocations.{abs64, globDat, relative, placeAt, kindAt, symbolAt, addendAt, live, items, positionAt}
-use Rattle.rules.specs.Relocations.{symbolBacking, symbolOf, targetOf, namedTarget, target, barred}
+use Rattle.rules.specs.Relocations.{abs64, globDat, relative, entryAt, placeAt, kindAt, symbolAt, addendAt, live, isPacked, items, positionAt}
+use Rattle.rules.specs.Relocations.{symbolBacking, symbolOf, targetOf, namedTarget, target, targetAt, barred}
 use Rattle.rules.specs.Relocations.{hasPlace, taken, goodPlace, badRelocation, firstBad, relocationsCheck}
-use Rattle.rules.specs.Addresses.{baseOf, outOfRange, natural, addressAt, addressesCheck}
+use Rattle.rules.specs.Addresses.{baseOf, addressOf, outOfRange, natural, addressAt, addressesCheck}
 use Rattle.rules.specs.Dynamic.{dynamicOf, baseTags, entriesCheck}
 use Rattle.rules.specs.Tables.{relocationsOf}
+use Rattle.rules.specs.Packed.{packedOf}
 use Rattle.rules.specs.Reader.{theModule}
 use Rattle.rules.specs.Lending.{memoryFits}
-use Rattle.rules.specs.Image.{loadsOver}
+use Rattle.rules.specs.Image.{loadsOver, loadedAt}
 use Rattle.rules.specs.Words.{writes}
 use Rattle.rules.specs.declared.Headers.{Headers}
 use Rattle.rules.specs.declared.Backing.{Backing}
@@ -46,8 +47,8 @@ use Rattle.laws.proofs.Places.{address-ranged, target-allowed}
 use Rattle.laws.proofs.Writes.{Apart, writes-length}
 use Rattle.demands.proofs.Image.{loads-length, part-length}
 use Rattle.demands.proofs.Guards.{idle}
-use Rattle.demands.specs.Plain.{store, segmentsOf, symbolEntry, symbolAddress, bareAddress, offRange, badBare, bareWords}
-use Rattle.demands.specs.Plain.{plainModule, plainChecks, plainMemory, plainOf}
+use Rattle.demands.specs.Plain.{store, segmentsOf, symbolEntry, symbolAddress, operation, bareAddress, isSkipped, offRange, badBare}
+use Rattle.demands.specs.Plain.{bareWords, plainModule, plainImage, plainChecks, plainMemory, plainOf}
 
 -- an address is out of range in both loaders or in none
 range-same : (z : ℤ) → offRange z ≡ outOfRange z
@@ -107,51 +108,89 @@ module _ (f : List ℕ) (m : Module) (headed : headersOf f ≡ good (m .headers)
   entry-same Absent n = refl
   entry-same (Value table) n = idle f (m .headers) headed loads .symbol-backed n table
 
-  module _ (bias : ℕ) (checked : relocationsCheck f m ≡ good tt) where
-    address-same : (k : ℕ) → k < items m → live f m k ≡ true → addressAt f m bias k ≡ bareAddress f m bias k
-    address-same k l t =
-        ap (λ (b : ℤ). b +ℤ signed (addendAt f m k))
-        (target-base f (m .headers) (m .symbols) bias (kindAt f m k) (symbolAt f m k) (target-allowed f m checked k l t)
-        ∙ ap (λ (p : Backing). cond (eqb (kindAt f m k) relative) (pos bias) (pos (symbolAddress f bias p)))
-        (entry-same (m .symbols) (symbolAt f m k)))
+  -- an entry and a packed place, each by its own operation
+  entry-address : (bias k : ℕ) → barred (target f (m .headers) (m .symbols) (kindAt f m k) (symbolAt f m k)) ≡ false
+      → addressOf bias (target f (m .headers) (m .symbols) (kindAt f m k) (symbolAt f m k)) (addendAt f m k)
+      ≡ operation (kindAt f m k) bias (symbolAddress f bias (symbolEntry f (m .headers) (m .symbols) (symbolAt f m k))) (signed (addendAt f m k))
+  entry-address bias k t =
+      ap (λ (b : ℤ). b +ℤ signed (addendAt f m k))
+      (target-base f (m .headers) (m .symbols) bias (kindAt f m k) (symbolAt f m k) t
+      ∙ ap (λ (p : Backing). cond (eqb (kindAt f m k) relative) (pos bias) (pos (symbolAddress f bias p)))
+      (entry-same (m .symbols) (symbolAt f m k)))
+
+  -- what is not skipped
+  unskipped : (k : ℕ) → not (isSkipped f m k) ≡ live f m k
+  unfolding live
+  unskipped k = go (isPacked m k) (eqb (kindAt f m k) 0)
+    where
+      go : (a b : Bool) → not (not a && b) ≡ (a || not b)
+      go true b = refl
+      go false b = refl
+
+  module _ (bias : ℕ) (image : List ℕ) (held : (x : ℕ) → le 8 image x ≡ loadedAt f (m .headers) x)
+      (checked : relocationsCheck f m ≡ good tt) where
+    address-same : (k : ℕ) → k < items m → live f m k ≡ true → addressAt f m bias k ≡ bareAddress f m bias image k
+    unfolding targetAt addendAt
+    address-same k l t = go (isPacked m k) refl (target-allowed f m checked k l t)
+      where
+        T : Target
+        T = target f (m .headers) (m .symbols) (kindAt f m k) (symbolAt f m k)
+
+        L : Target
+        L = Defined (loadedAt f (m .headers) (placeAt f m k))
+
+        A : ℕ
+        A = le 8 f (entryAt (m .relocations) k + 16)
+
+        S : ℕ
+        S = symbolAddress f bias (symbolEntry f (m .headers) (m .symbols) (symbolAt f m k))
+
+        go : (b : Bool) → isPacked m k ≡ b → barred (cond b L T) ≡ false
+            → addressOf bias (cond b L T) (cond b 0 A)
+            ≡ cond b (pos (bias + le 8 image (placeAt f m k))) (operation (kindAt f m k) bias S (signed (addendAt f m k)))
+        go true q a = rw (held (placeAt f m k)) (ap pos (add-zero (bias + loadedAt f (m .headers) (placeAt f m k))))
+        go false q a =
+            let z : addendAt f m k ≡ A = rw q in
+            rw z (rw z at (entry-address bias k a))
 
     -- check 13
-    pub bare-checked : addressesCheck f m bias ≡ good tt → faultsAt 13 (positionAt m) (badBare f m bias) (items m) ≡ good tt
+    pub bare-checked : addressesCheck f m bias ≡ good tt → faultsAt 13 (positionAt f m) (badBare f m bias image) (items m) ≡ good tt
     unfolding badBare
-    bare-checked e = all-faults (badBare f m bias) 13 (positionAt m) (items m) (λ k l. go k l (live f m k) refl)
+    bare-checked e = all-faults (badBare f m bias image) 13 (positionAt f m) (items m) (λ k l. go k l (live f m k) refl)
       where
-        go : (k : ℕ) → k < items m → (b : Bool) → live f m k ≡ b → (live f m k && offRange (bareAddress f m bias k)) ≡ false
-        go k l false q = rw q
-        go k l true q = rw (q, range-same (bareAddress f m bias k), ← address-same k l q) (address-ranged f m bias e k l q)
+        go : (k : ℕ) → k < items m → (b : Bool) → live f m k ≡ b → (not (isSkipped f m k) && offRange (bareAddress f m bias image k)) ≡ false
+        go k l false q = rw (unskipped k, q)
+        go k l true q =
+            rw (unskipped k, q, range-same (bareAddress f m bias image k), ← address-same k l q) (address-ranged f m bias e k l q)
 
     -- the words
-    module _ (in-range : addressesCheck f m bias ≡ good tt) (memory : List ℕ) (apart : Apart (live f m) (placeAt f m) (length memory) 0 (items m)) where
+    module _ (in-range : addressesCheck f m bias ≡ good tt) (apart : Apart (live f m) (placeAt f m) (length image) 0 (items m)) where
       -- the bare word of an item
       abbrev pub bareWord : ℕ → ℕ
       bareWord k = natural (addressAt f m bias k)
 
-      word-same : (k : ℕ) → k < items m → live f m k ≡ true → bareWord k ≡ natAbs (bareAddress f m bias k)
+      word-same : (k : ℕ) → k < items m → live f m k ≡ true → bareWord k ≡ natAbs (bareAddress f m bias image k)
       word-same k l t = in-range-same (addressAt f m bias k) (address-ranged f m bias in-range k l t) ∙ ap natAbs (address-same k l t)
 
-      pub bare-words : (n : ℕ) → n ≤ items m → bareWords f m bias memory n ≡ writes (live f m) (placeAt f m) bareWord memory 0 n
+      pub bare-words : (n : ℕ) → n ≤ items m → bareWords f m bias image n ≡ writes (live f m) (placeAt f m) bareWord image 0 n
       unfolding bareWords writes putWord
       bare-words zero u = refl
-      bare-words (suc k) u = rw zero-add (go (eqb (kindAt f m k) 0) refl (bare-words k (omega arith)))
+      bare-words (suc k) u = rw (zero-add, ← unskipped k) (go (isSkipped f m k) refl (bare-words k (omega arith)))
         where
           W : List ℕ
-          W = writes (live f m) (placeAt f m) bareWord memory 0 k
+          W = writes (live f m) (placeAt f m) bareWord image 0 k
 
           B : List ℕ
-          B = bareWords f m bias memory k
+          B = bareWords f m bias image k
 
-          go : (b : Bool) → eqb (kindAt f m k) 0 ≡ b → B ≡ W
-              → cond b B (store B (placeAt f m k) (bytesOf 8 (natAbs (bareAddress f m bias k))))
+          go : (b : Bool) → isSkipped f m k ≡ b → B ≡ W
+              → cond b B (store B (placeAt f m k) (bytesOf 8 (natAbs (bareAddress f m bias image k))))
               ≡ cond (not b) (putWord W (placeAt f m k) (bareWord k)) W
           go true q ih = ih
           go false q ih =
-              let t : live f m k ≡ true = rw q in
+              let t : live f m k ≡ true = sym (unskipped k) ∙ rw q in
               let i = apart .inside k (omega arith) (omega arith) t in
-              let z = writes-length (live f m) (placeAt f m) memory 0 bareWord k in
+              let z = writes-length (live f m) (placeAt f m) image 0 bareWord k in
               rw (ih, ← word-same k (omega arith) t) (sym (put-split (placeAt f m k) W (bytesOf 8 (bareWord k)) (omega arith)))
 
 -- the segments
@@ -181,23 +220,25 @@ bareOf m = record {
   dynamic = m .dynamic;
   symbols = m .symbols;
   relocations = m .relocations;
+  packed = m .packed;
   descriptors = record { at = 0; bytes = 0 };
   globals = 0;
 }
 
 bare-relocations : (f : List ℕ) (m : Module) → relocationsCheck f (bareOf m) ≡ relocationsCheck f m
-unfolding relocationsCheck firstBad badRelocation goodPlace taken hasPlace
+unfolding relocationsCheck firstBad badRelocation goodPlace taken hasPlace placeAt live targetAt positionAt
 bare-relocations f m = refl
 
-bare-addresses : (f : List ℕ) (m : Module) (bias : ℕ)
-    → faultsAt 13 (positionAt m) (badBare f (bareOf m) bias) (items m) ≡ faultsAt 13 (positionAt m) (badBare f m bias) (items m)
-unfolding badBare
-bare-addresses f m bias = refl
+bare-addresses : (f : List ℕ) (m : Module) (bias : ℕ) (image : List ℕ)
+    → faultsAt 13 (positionAt f (bareOf m)) (badBare f (bareOf m) bias image) (items m)
+    ≡ faultsAt 13 (positionAt f m) (badBare f m bias image) (items m)
+unfolding badBare positionAt placeAt addendAt
+bare-addresses f m bias image = refl
 
-bare-same : (f : List ℕ) (m : Module) (bias : ℕ) (memory : List ℕ) (n : ℕ) → bareWords f (bareOf m) bias memory n ≡ bareWords f m bias memory n
-unfolding bareWords
-bare-same f m bias memory zero = refl
-bare-same f m bias memory (suc n) = let ih = bare-same f m bias memory n in rw ih
+bare-same : (f : List ℕ) (m : Module) (bias : ℕ) (image : List ℕ) (n : ℕ) → bareWords f (bareOf m) bias image n ≡ bareWords f m bias image n
+unfolding bareWords placeAt addendAt
+bare-same f m bias image zero = refl
+bare-same f m bias image (suc n) = let ih = bare-same f m bias image n in rw ih
 
 pub passed-of : {A : Type 0} {a : A} {o : Outcome A} → o ≡ good a → passed o ≡ good tt
 passed-of e = rw e
@@ -206,24 +247,27 @@ passed-of e = rw e
 pub plain-module : (f : List ℕ) (m : Module) (bias n : ℕ) → m ≡ theModule f → headersOf f ≡ good (m .headers)
     → loadsCheck f (m .headers) ≡ good tt
     → passed (dynamicOf f (m .headers)) ≡ good tt → entriesCheck baseTags f (m .dynamic) ≡ good tt
-    → passed (relocationsOf f (m .headers) (m .dynamic)) ≡ good tt → relocationsCheck f m ≡ good tt
-    → memoryFits f (m .headers) n bias ≡ true → faultsAt 13 (positionAt m) (badBare f m bias) (items m) ≡ good tt
+    → passed (relocationsOf f (m .headers) (m .dynamic)) ≡ good tt
+    → passed (packedOf f (m .headers) (m .dynamic) (m .relocations)) ≡ good tt → relocationsCheck f m ≡ good tt
+    → memoryFits f (m .headers) n bias ≡ true → faultsAt 13 (positionAt f m) (badBare f m bias (plainImage f m n)) (items m) ≡ good tt
     → plainOf f bias n ≡ good (plainMemory f (plainModule f) bias n)
 unfolding plainOf headersOf
-plain-module f m bias n found headed loads dynamic entries relocations relocates fits addresses =
+plain-module f m bias n found headed loads dynamic entries relocations packed relocates fits addresses =
     let M = theModule f in
     let h = runs-all (headerChecks f) (andThen-good (runs (headerChecks f)) _ headed .here) in
     let a = rw found at loads in
     let b = rw found at dynamic in
     let c = rw found at entries in
     let d = rw found at relocations in
+    let k = rw found at packed in
     let e : relocationsCheck f (plainModule f) ≡ good tt = bare-relocations f M ∙ rw found at relocates in
     let g = rw found at fits in
-    let i : faultsAt 13 (positionAt M) (badBare f (plainModule f) bias) (items M) ≡ good tt = bare-addresses f M bias ∙ rw found at addresses in
+    let i : faultsAt 13 (positionAt f (plainModule f)) (badBare f (plainModule f) bias (plainImage f M n)) (items M) ≡ good tt =
+    bare-addresses f M bias (plainImage f M n) ∙ rw found at addresses in
     let all = all-runs (plainChecks f (plainModule f) bias n)
-    (h .0, (h .1 .0, (h .1 .1 .0, (a, (b, (c, (d, (e, (require-true _ 12 0 g, (i, tt)))))))))) in
+    (h .0, (h .1 .0, (h .1 .1 .0, (a, (b, (c, (d, (k, (e, (require-true _ 12 0 g, (i, tt))))))))))) in
     rw all
 
 pub plain-memory : (f : List ℕ) (m : Module) (bias n : ℕ) → m ≡ theModule f
-    → plainMemory f (plainModule f) bias n ≡ bareWords f m bias (segmentsOf f (m .headers) n (m .headers .count)) (items m)
+    → plainMemory f (plainModule f) bias n ≡ bareWords f m bias (plainImage f m n) (items m)
 plain-memory f m bias n found = rw found (bare-same f (theModule f) bias _ (items (theModule f)))

@@ -10,14 +10,15 @@ use Rattle.rules.specs.Headers.{theHeaders, headersOf}
 use Rattle.rules.specs.Segments.{loadsCheck}
 use Rattle.rules.specs.Dynamic.{dynamicOf, symtab, knownTags, entriesCheck, entryOf}
 use Rattle.rules.specs.Tables.{relocationsOf, descriptorsOf}
+use Rattle.rules.specs.Packed.{packedOf}
 use Rattle.rules.specs.Descriptors.{globalsOf}
-use Rattle.rules.specs.Reader.{theDynamic, theDescriptors, theModule, readerChecks, moduleOf}
+use Rattle.rules.specs.Reader.{theDynamic, theRelocations, theDescriptors, theModule, readerChecks, moduleOf}
 use Rattle.rules.specs.Choices.{globalsIn}
 use Rattle.rules.specs.declared.Module.{Module}
 use Rattle.demands.proofs.Exactly.{exactly-read}
 use Rattle.rules.proofs.OutcomeLaws.{never}
 
--- checks 1 to 9 pass, and m is what they find
+-- the reader's checks pass, and m is what they find
 pub record Reads (f : List ℕ) (m : Module) : Type 0 where
   pub headers : headersOf f ≡ good (m .headers)
   pub loads : loadsCheck f (m .headers) ≡ good tt
@@ -26,6 +27,7 @@ pub record Reads (f : List ℕ) (m : Module) : Type 0 where
   pub symbols : m .symbols ≡ entryOf f (m .dynamic) symtab
   pub relocations : relocationsOf f (m .headers) (m .dynamic) ≡ good (m .relocations)
   pub descriptors : descriptorsOf f (m .headers) (m .dynamic) ≡ good (m .descriptors)
+  pub packed : packedOf f (m .headers) (m .dynamic) (m .relocations) ≡ good (m .packed)
   pub globals : globalsOf f (m .headers) (m .descriptors) ≡ good (globalsIn f m)
   pub count : m .globals ≡ length (globalsIn f m)
   pub found : m ≡ theModule f
@@ -45,7 +47,8 @@ all-reads f a = record {
   symbols = refl;
   relocations = passed-good _ (relocationsOf f (theHeaders f) (theDynamic f)) (a .1 .1 .1 .1 .1 .1 .0);
   descriptors = passed-good _ (descriptorsOf f (theHeaders f) (theDynamic f)) (a .1 .1 .1 .1 .1 .1 .1 .0);
-  globals = passed-good _ (globalsOf f (theHeaders f) (theDescriptors f)) (a .1 .1 .1 .1 .1 .1 .1 .1 .0);
+  packed = passed-good _ (packedOf f (theHeaders f) (theDynamic f) (theRelocations f)) (a .1 .1 .1 .1 .1 .1 .1 .1 .0);
+  globals = passed-good _ (globalsOf f (theHeaders f) (theDescriptors f)) (a .1 .1 .1 .1 .1 .1 .1 .1 .1 .0);
   count = refl;
   found = refl;
 }

@@ -1,6 +1,6 @@
 -- Every refusal has a number of its call and a position within bounds, and the facts' counts are within theirs.
 -- Assumes nothing.
-use Prim.Native.Nat.{ℕ, _/_, _%_, _≤_}
+use Prim.Native.Nat.{ℕ, _/_, _%_, _≤_, _<_}
 use mathlib.Core.Path.{_≡_, refl, sym, ap, _∙_, subst}
 use mathlib.Core.Bool.{Bool, true, false, not, _&&_, _||_}
 use mathlib.Core.List.{List, [], _∷_, _++_}
@@ -8,7 +8,7 @@ use mathlib.Core.Logic.{_⊎_, inl, inr, ⊎-elim}
 use native.Mathlib.Omega.{arith}
 use lib.ListN.{length}
 use lib.Dec.{leb, ltb, eqb}
-use borrow.Author.Tests.{leb-true, ltb-true, eqb-true}
+use borrow.Author.Tests.{leb-true, lt-leb, ltb-true, eqb-true}
 use Rattle.rules.specs.Outcome.{Outcome, good, bad, refusal, found, passed, require}
 use Rattle.rules.specs.Checks.{Check, All, First}
 use Rattle.rules.specs.Limits.{entryLimit, globalLimit, headerLimit, dynamicLimit}
@@ -17,10 +17,10 @@ use Rattle.rules.specs.First.{first}
 use Rattle.rules.specs.Headers.{wrongByte, goodHeader, headerCheck, theHeaders}
 use Rattle.rules.specs.Segments.{badLoad}
 use Rattle.rules.specs.Dynamic.{nullEntry, goodSize, dynamicAt, firstDynamic, secondDynamic, dynamicOf}
-use Rattle.rules.specs.Tables.{tableBacking, backed, relaAddress, relaBytes, relocationsOf}
+use Rattle.rules.specs.Tables.{tableBacking, backed, relaAddress, relaBytes, packedAddress, packedBytes, relocationsOf}
 use Rattle.rules.specs.Descriptors.{globalsOf, descriptorTable}
-use Rattle.rules.specs.Reader.{theDynamic, theDescriptors, theModule, readerChecks, moduleOf}
-use Rattle.rules.specs.Relocations.{live, items, relocationsCheck, wordsOf}
+use Rattle.rules.specs.Reader.{theDynamic, theRelocations, theDescriptors, theModule, readerChecks, moduleOf}
+use Rattle.rules.specs.Relocations.{live, items, positionAt, badRelocation, relocationsCheck, wordsOf}
 use Rattle.rules.specs.Examine.{factsOf, moduleChecks, examineChecks, examinedOf}
 use Rattle.rules.specs.Addresses.{badAddress}
 use Rattle.rules.specs.Choices.{globalsIn}
@@ -38,13 +38,17 @@ use Rattle.rules.specs.declared.Facts.{Facts}
 use Rattle.rules.proofs.FirstLaws.{count-le}
 use Rattle.rules.proofs.OutcomeLaws.{good-bad, bad-good, never, and-left, and-right, andThen-good, require-held, cond-held}
 use Rattle.rules.proofs.ChecksLaws.{all-append}
-use Rattle.laws.proofs.Checks.{good-same}
+use Rattle.laws.proofs.Checks.{good-same, le-or-lt}
+use Rattle.laws.proofs.PackedTable.{Good, table-short, packed-good}
 use Rattle.laws.proofs.Globals.{globals-count}
 use Rattle.demands.proofs.Reading.{module-reads}
+use Rattle.demands.proofs.Items.{packs}
+use Rattle.demands.specs.Packed.{Packs}
 use Rattle.demands.proofs.Exactly.{exactly-read, exactly-examined, exactly-loaded, taken-passes}
 use Rattle.demands.proofs.Table.{table}
-use Rattle.demands.specs.Table.{readerNumbers, examineNumbers, loadNumbers, listed, positionLimit, Lowest, Unread, ItemAt, Row}
+use Rattle.demands.specs.Table.{readerNumbers, examineNumbers, loadNumbers, listed, positionLimit, Lowest, Unread, FirstAt, ItemAt, Row}
 use Rattle.demands.specs.Table.{DynamicFault, no-dynamic, second-dynamic, bad-dynamic, EntryFault, bad-entry, no-partner}
+use Rattle.demands.specs.Table.{PackedFault, not-backed, bitmap-first, too-many}
 use Rattle.demands.specs.Table.{GlobalFault, ends-high, outside-loads, left-over, ChoiceFault, wrong-number, bad-choice}
 use Rattle.demands.specs.Demands.{Numbered, Counted, Examines}
 
@@ -170,7 +174,7 @@ dynamic-entries f h d e =
 pub relocations-count : (f : List ℕ) (h : Headers) (d : Dynamic) (r : Relocations) → relocationsOf f h d ≡ good r → r .entries ≤ entryLimit
 unfolding relocationsOf
 relocations-count f h d r e =
-    let a = andThen-good (backed 0 (tableBacking f h (relaAddress f d) (relaBytes f d))) _ e in
+    let a = andThen-good (backed 7 0 (tableBacking f h (relaAddress f d) (relaBytes f d))) _ e in
     let b = andThen-good (require (leb (relaBytes f d / 24) entryLimit) 7 0) _ (a .rest) in
     let l = leb-true (relaBytes f d / 24) entryLimit (require-held _ 7 0 (b .here)) in
     good-same (λ (r : Relocations). r .entries ≤ entryLimit) _ r (b .rest) l
@@ -189,9 +193,9 @@ dynamic-position f h l i (no-dynamic c q) = omega arith
 dynamic-position f h l i (second-dynamic j a b) = let u = b .below in omega arith
 dynamic-position f h l i (bad-dynamic a b e) = let u = a .below in omega arith
 
-entry-position : (f : List ℕ) (d : Dynamic) → d .entries ≤ dynamicLimit / 16 → Bounded (EntryFault f d)
-entry-position f d l i (bad-entry a) = let u = a .below in omega arith
-entry-position f d l i (no-partner k a b c q) = omega arith
+dynamic-entry-position : (f : List ℕ) (d : Dynamic) → d .entries ≤ dynamicLimit / 16 → Bounded (EntryFault f d)
+dynamic-entry-position f d l i (bad-entry a) = let u = a .below in omega arith
+dynamic-entry-position f d l i (no-partner k a b c q) = omega arith
 
 global-position : (f : List ℕ) (h : Headers) (s : List ℕ) → Bounded (GlobalFault f h s)
 global-position f h s i (ends-high u) = let l = u .counted in omega arith
@@ -201,21 +205,59 @@ global-position f h s i (left-over c q w o) = omega arith
 unread-position : (f : List ℕ) (h : Headers) (s : List ℕ) (code : ℕ) → Bounded (Unread f h s code)
 unread-position f h s code i u = let l = u .counted in omega arith
 
-item-position : (f : List ℕ) (m : Module) (kind : Bool) → items m ≤ entryLimit → Bounded (ItemAt f m kind)
-item-position f m kind l i w = let u = w .first .below in omega arith
+-- the item at a position: an entry's index, or the number of entries and the index of a word
+abbrev Reported : List ℕ → Module → Type 0
+Reported f m = (k : ℕ) → k < items m → positionAt f m k ≤ positionLimit
+
+first-position : (f : List ℕ) (m : Module) (fault : ℕ → Bool) → Reported f m → Bounded (FirstAt f m fault)
+first-position f m fault l i w = let u = l (w .item) (w .first .below) in let q = w .reported in omega arith
+
+item-position : (f : List ℕ) (m : Module) (kind : Bool) → Reported f m → Bounded (ItemAt f m kind)
+item-position f m kind l i w = first-position f m (badRelocation f m) l i (w .at)
+
+packed-fault : (f : List ℕ) (h : Headers) (d : Dynamic) (r : Relocations) → Bounded (PackedFault f h d (r .entries))
+packed-fault f h d r i (not-backed b z) = omega arith
+packed-fault f h d r i (bitmap-first at b l e z) = omega arith
+packed-fault f h d r i (too-many at b l e u v) =
+    let s = table-short f h (packedAddress f d) (packedBytes f d) at b in omega arith
 
 choice-position : (gs : List Global) (choices : List ℕ) → length gs ≤ globalLimit → Bounded (ChoiceFault gs choices)
 choice-position gs choices l i (wrong-number e q) = omega arith
 choice-position gs choices l i (bad-choice e a) = let u = a .below in omega arith
 
+-- the packed places of a module
+module-good : (f : List ℕ) (m : Module) → moduleOf f ≡ good m → Good f (m .relocations .entries) (m .packed)
+module-good f m e = packed-good f (m .headers) (m .dynamic) (m .relocations) (m .packed) (module-reads f m e .packed)
+
+entries-count : (f : List ℕ) (m : Module) → moduleOf f ≡ good m → m .relocations .entries ≤ entryLimit
+entries-count f m e = relocations-count f (m .headers) (m .dynamic) (m .relocations) (module-reads f m e .relocations)
+
+pub module-packs : (f : List ℕ) (m : Module) → moduleOf f ≡ good m → Packs f m
+module-packs f m e = packs f m (module-good f m e) (entries-count f m e)
+
 -- the counts of a module
 pub module-counted : (f : List ℕ) (m : Module) → moduleOf f ≡ good m
     → (items m ≤ entryLimit) × (length (globalsIn f m) ≤ globalLimit)
 module-counted f m e =
-    let r = module-reads f m e in (
-      relocations-count f (m .headers) (m .dynamic) (m .relocations) (r .relocations),
-      globals-count f (m .headers) (m .descriptors) (globalsIn f m) (r .loads) (r .globals),
-    )
+    let r = module-reads f m e in
+    (module-packs f m e .few, globals-count f (m .headers) (m .descriptors) (globalsIn f m) (r .loads) (r .globals))
+
+entry-position : (f : List ℕ) (m : Module) (k : ℕ) → k < m .relocations .entries → positionAt f m k ≡ k
+unfolding positionAt
+entry-position f m k l = rw (lt-leb (m .relocations .entries) k l)
+
+module-reported : (f : List ℕ) (m : Module) → moduleOf f ≡ good m → Reported f m
+module-reported f m e k l =
+    let n = entries-count f m e in
+    ⊎-elim
+    (λ (after : m .relocations .entries ≤ k).
+    let b = module-packs f m e .named-by k (record { after = after; listed = l }) in
+    let q = b .1 .position in
+    let i = b .1 .inside in
+    let s = module-good f m e .short in
+    omega arith)
+    (λ (before : k < m .relocations .entries). let q = entry-position f m k before in omega arith)
+    (le-or-lt (m .relocations .entries) k)
 
 -- ---- the three calls
 
@@ -233,6 +275,12 @@ module _ (f : List ℕ) where
   dynamic-most : passed (dynamicOf f H) ≡ good tt → D .entries ≤ dynamicLimit / 16
   dynamic-most e = passed-found (λ (d : Dynamic). d .entries ≤ dynamicLimit / 16) _ (dynamicOf f H) e (dynamic-entries f H)
 
+  abbrev R : Relocations
+  R = theRelocations f
+
+  entries-most : passed (relocationsOf f H D) ≡ good tt → R .entries ≤ entryLimit
+  entries-most e = passed-found (λ (r : Relocations). r .entries ≤ entryLimit) _ (relocationsOf f H D) e (relocations-count f H D)
+
   reader-each : Each readerNumbers (readerChecks f)
   reader-each =
       next (row readerNumbers 1 refl zero-position (table f .row-1)) (λ _.
@@ -241,10 +289,11 @@ module _ (f : List ℕ) where
       let c = count-most headed in
       next (row readerNumbers 4 refl (lowest-position (badLoad f H) 0 (H .count) (omega arith)) (table f .row-4 H)) (λ _.
       next (within-passed (row readerNumbers 5 refl (dynamic-position f H c) (table f .row-5 H))) (λ d.
-      next (row readerNumbers 6 refl (entry-position f D (dynamic-most d)) (table f .row-6 D)) (λ _.
-      next (within-passed (row readerNumbers 7 refl zero-position (table f .row-7 H D))) (λ _.
+      next (row readerNumbers 6 refl (dynamic-entry-position f D (dynamic-most d)) (table f .row-6 D)) (λ _.
+      next (within-passed (row readerNumbers 7 refl zero-position (table f .row-7 H D))) (λ r.
       next (within-passed (row readerNumbers 7 refl one-position (table f .row-7-descriptors H D))) (λ _.
-      next (within-passed (walked-within (theDescriptors f))) (λ _. none)))))))))
+      next (within-passed (row readerNumbers 15 refl (packed-fault f H D R) (table f .row-15 H D R (entries-most r)))) (λ _.
+      next (within-passed (walked-within (theDescriptors f))) (λ _. none))))))))))
     where
       walked-within : (t : Descriptors) → Within readerNumbers (globalsOf f H t)
       walked-within t =
@@ -254,11 +303,11 @@ module _ (f : List ℕ) where
   abbrev M : Module
   M = theModule f
 
-  -- what the reader has counted
-  counted-most : All (readerChecks f) → (items M ≤ entryLimit) × (length (globalsIn f M) ≤ globalLimit)
-  counted-most a = module-counted f M (exactly-read f .taken-if a)
+  -- what the reader has found
+  found-module : All (readerChecks f) → moduleOf f ≡ good M
+  found-module a = exactly-read f .taken-if a
 
-  walk-within : (numbers : List ℕ) → listed numbers 10 ≡ true → listed numbers 11 ≡ true → items M ≤ entryLimit
+  walk-within : (numbers : List ℕ) → listed numbers 10 ≡ true → listed numbers 11 ≡ true → Reported f M
       → Within numbers (relocationsCheck f M)
   walk-within numbers ten eleven l =
       rows numbers 10 11 ten eleven (item-position f M true l) (item-position f M false l) (table f .row-10 M) (table f .row-11 M)
@@ -266,14 +315,14 @@ module _ (f : List ℕ) where
   examine-each : Each examineNumbers (examineChecks f)
   examine-each =
       each-more readerNumbers (10 ∷ 11 ∷ []) (readerChecks f) _ reader-each (λ a.
-      next (walk-within examineNumbers refl refl (counted-most a .0)) (λ _. none))
+      next (walk-within examineNumbers refl refl (module-reported f M (found-module a))) (λ _. none))
 
   load-each : (bias n p : ℕ) (choices : List ℕ) → Each loadNumbers (loadChecks f bias n p choices)
   load-each bias n p choices =
       each-more readerNumbers (10 ∷ 11 ∷ 12 ∷ 13 ∷ 14 ∷ []) (readerChecks f) _ reader-each (λ a.
-      let k = counted-most a .0 in
-      let l = counted-most a .1 in
-      let thirteen = lowest-position (badAddress f M bias) 0 (items M) (omega arith) in
+      let k = module-reported f M (found-module a) in
+      let l = module-counted f M (found-module a) .1 in
+      let thirteen = first-position f M (badAddress f M bias) k in
       next (walk-within loadNumbers refl refl k) (λ _.
       next (row loadNumbers 12 refl zero-position (table f .row-12 M bias n p)) (λ _.
       next (row loadNumbers 13 refl thirteen (table f .row-13 M bias)) (λ _.

@@ -1,19 +1,22 @@
 -- What holds of a load that passes checks 1 to 14, and what it leaves.
 -- Assumes nothing.
-use Prim.Native.Nat.{ℕ, _+_, _*_, _≤_, _<_}
+use Prim.Native.Nat.{ℕ, _+_, _*_, _^_, _≤_, _<_}
 use mathlib.Core.Path.{_≡_, refl, _∙_}
 use mathlib.Core.List.{List}
 use mathlib.Core.Logic.{inl, inr, ⊎-elim}
+use native.Mathlib.Nat.{add-zero}
 use native.Mathlib.Omega.{arith}
 use lib.ListN.{length}
+use borrow.Author.Tests.{le-leb}
 use Rattle.rules.specs.Limits.{addressLimit}
+use Rattle.rules.specs.Bytes.{le}
 use Rattle.rules.specs.Segments.{loadsEnd}
-use Rattle.rules.specs.Relocations.{placeAt, live, items}
+use Rattle.rules.specs.Relocations.{placeAt, addendAt, live, items, targetAt}
 use Rattle.rules.specs.Addresses.{natural, addressAt}
 use Rattle.rules.specs.Choices.{globalsIn}
-use Rattle.rules.specs.Image.{imageOf}
+use Rattle.rules.specs.Image.{imageOf, loadedAt}
 use Rattle.rules.specs.Plane.{planeOf}
-use Rattle.rules.specs.Words.{sourceAt, tagOf, wordAt}
+use Rattle.rules.specs.Words.{at, sourceAt, tagOf, wordAt}
 use Rattle.rules.specs.Load.{loaded}
 use Rattle.rules.specs.declared.Module.{Module}
 use Rattle.laws.proofs.Checks.{le-or-lt}
@@ -26,11 +29,29 @@ use Rattle.demands.proofs.Lending.{Lent, memory-lent, plane-lent, lendi
 use Rattle.demands.proofs.Plane.{Chosen, choices-chosen, plane-holds, plane-small}
 use Rattle.demands.proofs.Image.{image-size, image-holds}
 use Rattle.demands.proofs.Sources.{tagOf-small}
+use Rattle.demands.proofs.Items.{packed-live}
 use Rattle.demands.specs.Demands.{Relocates, Leaves}
 
 -- a run of items from the first
 pub in-run : (k n : ℕ) → k < n → k < 0 + n
 in-run k n l = omega arith
+
+-- a packed place's source and address are the bias and what its place holds
+pub packed-source : (f : List ℕ) (m : Module) (bias k : ℕ) → m .relocations .entries ≤ k
+    → sourceAt f m bias k ≡ at (bias + loadedAt f (m .headers) (placeAt f m k))
+unfolding targetAt
+packed-source f m bias k l = rw (le-leb (m .relocations .entries) k l)
+
+packed-address : (f : List ℕ) (m : Module) (bias k : ℕ) → m .relocations .entries ≤ k
+    → natural (addressAt f m bias k) ≡ bias + loadedAt f (m .headers) (placeAt f m k)
+unfolding targetAt addendAt
+packed-address f m bias k l = rw (le-leb (m .relocations .entries) k l) (add-zero _)
+
+-- and its word that address, with the tag at it
+packed-word : (f : List ℕ) (m : Module) (bias n : ℕ) (plane : List ℕ) (k : ℕ) → m .relocations .entries ≤ k
+    → wordAt f m bias n plane k
+    ≡ bias + loadedAt f (m .headers) (placeAt f m k) + 2 ^ 56 * tagOf plane bias n (at (bias + loadedAt f (m .headers) (placeAt f m k)))
+packed-word f m bias n plane k l = rw (packed-address f m bias k l, packed-source f m bias k l)
 
 pub record Stands (f : List ℕ) (bias n p : ℕ) (choices : List ℕ) (m : Module) : Type 0 where
   pub reading : Reads f m
@@ -69,10 +90,24 @@ module _ (f : List ℕ) (bias n p : ℕ) (choices : List ℕ) (m : Module) where
   tag k = tagOf plane bias n (sourceAt f m bias k)
 
   module _ (s : Stands f bias n p choices m) where
+    -- *P, which the rules read from the file, is what the image holds
+    pub held-image : (x : ℕ) → le 8 (imageOf f (m .headers) n) x ≡ loadedAt f (m .headers) x
+    held-image = image-holds f m n (s .reading .headers) (s .reading .loads) (s .lent .holds) .loaded-words
+
     pub tag-small : (k : ℕ) → tag k < 16
     tag-small k =
         tagOf-small plane (plane-small (globalsIn f m) choices p (loadsEnd f (m .headers)) (s .rising) (let h = s .lent .holds in omega arith) (s .chosen))
         bias n (sourceAt f m bias k)
+
+    -- the word at its place
+    word-left : (k : ℕ) → Relocates f m k → le 8 (loaded f m bias n p choices .memory) (placeAt f m k) ≡ word k
+    word-left k e =
+        let a = s .small k e in
+        let t = tag-small k in
+        le-bytes 8 (word k) _ (placeAt f m k) (omega arith)
+        (λ j l.
+        writes-at (live f m) (placeAt f m) (imageOf f (m .headers) n) 0 word (items m) (s .apart) k j
+        (omega arith) (in-run k (items m) (e .listed)) (e .unskipped) l)
 
     pub leaves : Leaves f bias n p choices m (loaded f m bias n p choices)
     leaves = record {
@@ -93,13 +128,10 @@ module _ (f : List ℕ) (bias n p : ℕ) (choices : List ℕ) (m : Module) where
             let z = image-size f (m .headers) n in
             omega arith;
         words-apart = λ j k l e g. s .apart .apart j k (omega arith) l (in-run k (items m) (g .listed)) (e .unskipped) (g .unskipped);
-        words = λ k e.
-            let a = s .small k e in
-            let t = tag-small k in
-            le-bytes 8 (word k) _ (placeAt f m k) (omega arith)
-            (λ j l.
-            writes-at (live f m) (placeAt f m) (imageOf f (m .headers) n) 0 word (items m) (s .apart) k j
-            (omega arith) (in-run k (items m) (e .listed)) (e .unskipped) l);
+        words = word-left;
+        packed-words = λ k e.
+            word-left k (record { listed = e .listed; unskipped = packed-live f m k (e .after) })
+            ∙ packed-word f m bias n plane k (e .after) ∙ rw (held-image (placeAt f m k));
         other-bytes = λ x out.
             writes-other (live f m) (placeAt f m) (imageOf f (m .headers) n) 0 word (items m) x (λ k _ l t.
             ⊎-elim

@@ -13,7 +13,7 @@ use lib.Dec.{leb, ltb, eqb}
 use borrow.Author.Tests.{leb-false, lt-leb, ltb-true, ltb-false, lt-ltb, le-ltb, eqb-true, eqb-false, eq-eqb, ne-eqb, not-true, not-false}
 use Rattle.rules.specs.Outcome.{Outcome, good, bad, refusal, andThen, require}
 use Rattle.rules.specs.Limits.{fileLeast, fileLimit, entryLimit, globalLimit, granule, addressLimit}
-use Rattle.rules.specs.First.{first, someBelow, faultless}
+use Rattle.rules.specs.First.{first, someBelow, faultsAt, faultless}
 use Rattle.rules.specs.Headers.{sizeCheck, wrongByte, identificationCheck, headerCheck}
 use Rattle.rules.specs.Segments.{badLoad, loadsCheck, inMemory}
 use Rattle.rules.specs.Dynamic.{isDynamicAt, dynamicFrom, firstDynamic, secondDynamic, goodSize, nullEntry, dynamicAt, dynamicOf}
@@ -21,7 +21,7 @@ use Rattle.rules.specs.Dynamic.{knownTags, badEntry, partnerless, entriesCheck}
 use Rattle.rules.specs.Tables.{tableBacking, backed, relaAddress, relaBytes, descriptorAddress, descriptorBytes, relocationsOf, descriptorsOf}
 use Rattle.rules.specs.Descriptors.{Uleb, number, malformed, Read, finished, global, ulebAt, globalAfter, second, descriptor, stepAt}
 use Rattle.rules.specs.Descriptors.{onGlobal, globalsFrom, globalsOf, descriptorTable, tableStart}
-use Rattle.rules.specs.Relocations.{items, targetAt, barred, badRelocation, firstBad, relocationsCheck}
+use Rattle.rules.specs.Relocations.{items, positionAt, targetAt, barred, badRelocation, firstBad, relocationsCheck}
 use Rattle.rules.specs.Lending.{lendingFits, lendingCheck}
 use Rattle.rules.specs.Addresses.{badAddress, addressesCheck}
 use Rattle.rules.specs.Choices.{badChoice, choicesFor}
@@ -38,10 +38,12 @@ use Rattle.rules.specs.declared.Module.{Module}
 use Rattle.rules.proofs.FirstLaws.{first-le, at-some}
 use Rattle.rules.proofs.OutcomeLaws.{good-bad, never, require-held}
 use Rattle.laws.proofs.Checks.{andThen-bad, require-stopped, faultless-all, all-faultless, some-at}
+use Rattle.laws.proofs.PackedTable.{backed-bad}
+use Rattle.demands.proofs.PackedFaults.{packed-says, packed-when}
 use Rattle.demands.proofs.Lowest.{cond-bad, lowest-first, first-lowest, clear-first, first-clear, faultless-lowest, lowest-faultless}
 use Rattle.demands.specs.Table.{listed, Lowest, Reaches, Row, Table}
 use Rattle.demands.specs.Table.{DynamicFault, no-dynamic, second-dynamic, bad-dynamic, EntryFault, bad-entry, no-partner, Unread}
-use Rattle.demands.specs.Table.{GlobalFault, ends-high, outside-loads, left-over, ItemAt, ChoiceFault, wrong-number, bad-choice}
+use Rattle.demands.specs.Table.{GlobalFault, ends-high, outside-loads, left-over, FirstAt, ItemAt, ChoiceFault, wrong-number, bad-choice}
 
 -- a refusal with a number, at a position
 abbrev By : ℕ → (ℕ → Type 0) → Refusal → Type 0
@@ -84,16 +86,12 @@ dynamicAt-refusal f i size (At at) e =
 
 -- ---- check 7
 
-backed-row : {r : Refusal} (position : ℕ) (p : Backing) → backed position p ≡ bad r → (p ≡ Nowhere) × (r ≡ refusal 7 position)
-backed-row position Nowhere e = (refl, cc)
-backed-row position (At at) e = search never
-
 relocations-row : {r : Refusal} (f : List ℕ) (h : Headers) (d : Dynamic) → relocationsOf f h d ≡ bad r
     → ((tableBacking f h (relaAddress f d) (relaBytes f d) ≡ Nowhere) ⊎ (entryLimit < relaBytes f d / 24)) × (r ≡ refusal 7 0)
 unfolding relocationsOf
 relocations-row f h d e =
-    andThen-bad (backed 0 (tableBacking f h (relaAddress f d) (relaBytes f d))) _ e
-    (λ q. let b = backed-row 0 (tableBacking f h (relaAddress f d) (relaBytes f d)) q in (inl (b .0), b .1)) (λ _ _ q.
+    andThen-bad (backed 7 0 (tableBacking f h (relaAddress f d) (relaBytes f d))) _ e
+    (λ q. let b = backed-bad 7 0 (tableBacking f h (relaAddress f d) (relaBytes f d)) q in (inl (b .0), b .1)) (λ _ _ q.
     andThen-bad (require (leb (relaBytes f d / 24) entryLimit) 7 0) _ q
     (λ q. let s = require-stopped (leb (relaBytes f d / 24) entryLimit) 7 0 q in (inr (leb-false (relaBytes f d / 24) entryLimit (s .0)), s .1))
     (λ _ _ q. good-bad q))
@@ -104,7 +102,7 @@ unfolding relocationsOf
 row-relocations f h d (inl e) = rw e
 row-relocations f h d (inr l) = go (tableBacking f h (relaAddress f d) (relaBytes f d))
   where
-    go : (p : Backing) → andThen {B = Relocations} (backed 0 p) (λ at. andThen (require (leb (relaBytes f d / 24) entryLimit) 7 0) (λ _.
+    go : (p : Backing) → andThen {B = Relocations} (backed 7 0 p) (λ at. andThen (require (leb (relaBytes f d / 24) entryLimit) 7 0) (λ _.
         good (record { at = at; entries = relaBytes f d / 24 }))) ≡ bad (refusal 7 0)
     go Nowhere = refl
     go (At at) = rw (lt-leb (relaBytes f d / 24) entryLimit l)
@@ -113,8 +111,8 @@ descriptors-row : {r : Refusal} (f : List ℕ) (h : Headers) (d : Dynamic) → d
     → (tableBacking f h (descriptorAddress f d) (descriptorBytes f d) ≡ Nowhere) × (r ≡ refusal 7 1)
 unfolding descriptorsOf
 descriptors-row f h d e =
-    andThen-bad (backed 1 (tableBacking f h (descriptorAddress f d) (descriptorBytes f d))) _ e
-    (backed-row 1 (tableBacking f h (descriptorAddress f d) (descriptorBytes f d)))
+    andThen-bad (backed 7 1 (tableBacking f h (descriptorAddress f d) (descriptorBytes f d))) _ e
+    (backed-bad 7 1 (tableBacking f h (descriptorAddress f d) (descriptorBytes f d)))
     (λ _ _ q. search never)
 
 row-descriptors : (f : List ℕ) (h : Headers) (d : Dynamic) → tableBacking f h (descriptorAddress f d) (descriptorBytes f d) ≡ Nowhere
@@ -334,16 +332,35 @@ module _ (f : List ℕ) where
         (barred (targetAt f m (first (badRelocation f m) 0 (items m)))) refl q)
       where
         go : (i : ℕ) → Lowest (badRelocation f m) 0 (items m) i → (b : Bool) → barred (targetAt f m i) ≡ b
-            → r ≡ refusal (cond b 10 11) i → Barred r
-        go i l true x q = inl (i, (q, record { first = l; by-kind = x }))
-        go i l false x q = inr (i, (q, record { first = l; by-kind = x }))
+            → r ≡ refusal (cond b 10 11) (positionAt f m i) → Barred r
+        go i l true x q = inl (positionAt f m i, (q, record { at = record { item = i; first = l; reported = refl }; by-kind = x }))
+        go i l false x q = inr (positionAt f m i, (q, record { at = record { item = i; first = l; reported = refl }; by-kind = x }))
 
-    item-when : (kind : Bool) (i : ℕ) → ItemAt f m kind i → relocationsCheck f m ≡ bad (refusal (cond kind 10 11) i)
+    item-when : (kind : Bool) (p : ℕ) → ItemAt f m kind p → relocationsCheck f m ≡ bad (refusal (cond kind 10 11) p)
     unfolding relocationsCheck firstBad
-    item-when kind i u =
-        let l = u .first .below in
-        let a = lowest-first (badRelocation f m) 0 (items m) (items m) (omega arith) i (u .first) in
-        rw (a, ne-eqb i (items m) (λ z. omega arith), u .by-kind)
+    item-when kind p u =
+        let i = u .at .item in
+        let l = u .at .first .below in
+        let a = lowest-first (badRelocation f m) 0 (items m) (items m) (omega arith) i (u .at .first) in
+        rw (a, ne-eqb i (items m) (λ z. omega arith), u .by-kind, u .at .reported)
+
+    -- the items with a fault of another check
+    first-refuses : (code : ℕ) (fault : ℕ → Bool) → Refuses (faultsAt code (positionAt f m) fault (items m)) (By code (FirstAt f m fault))
+    first-refuses code fault = record {
+      says = λ r e.
+          cond-bad (eqb (first fault 0 (items m)) (items m)) _ _ e
+          (λ _ q. good-bad q)
+          (λ a q.
+          let ne = eqb-false (first fault 0 (items m)) (items m) a in
+          let l = first-le fault (items m) 0 in
+          let low = first-lowest fault 0 (items m) (items m) (omega arith) (omega arith) in
+          (positionAt f m (first fault 0 (items m)), (q, record { item = first fault 0 (items m); first = low; reported = refl })));
+      when = λ r w.
+          let u = w .1 .1 in
+          let l = u .first .below in
+          let a = lowest-first fault 0 (items m) (items m) (omega arith) (u .item) (u .first) in
+          rw (a, ne-eqb (u .item) (items m) (λ z. omega arith), w .1 .0, u .reported);
+    }
 
     item-refuses : Refuses (relocationsCheck f m) Barred
     item-refuses = record {
@@ -433,12 +450,16 @@ table f = record {
     says = λ r e. let s = descriptors-row f h d e in (1, (s .1, (refl, s .0)));
     when = λ r w. row-descriptors f h d (w .1 .1 .1) ∙ rw (w .1 .0, w .1 .1 .0);
   });
+  row-15 = λ h d r few. one-row 15 (record {
+    says = packed-says f h d r few;
+    when = λ q w. packed-when f h d r few (w .0) (w .1 .1) ∙ rw (w .1 .0);
+  });
   row-8 = λ h t. first-row 8 9 (λ z. omega arith) (walk-refuses f h t);
   row-9 = λ h t. second-row 8 9 (λ z. omega arith) (walk-refuses f h t);
   row-10 = λ m. first-row 10 11 (λ z. omega arith) (item-refuses f m);
   row-11 = λ m. second-row 10 11 (λ z. omega arith) (item-refuses f m);
   row-12 = λ m bias n p. one-row 12 (require-refuses (lendingFits f m bias n p) 12 0 (λ e. e) (λ e. e));
-  row-13 = λ m bias. one-row 13 (faultless-refuses 13 (items m) (badAddress f m bias));
+  row-13 = λ m bias. one-row 13 (first-refuses f m 13 (badAddress f m bias));
   row-14 = λ gs choices. one-row 14 (record {
     says = choices-says gs choices;
     when = λ r w. choices-when gs choices (w .0) (w .1 .1) ∙ rw (w .1 .0);

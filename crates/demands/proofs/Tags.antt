@@ -9,12 +9,13 @@ use native.Mathlib.Omega.{arith}
 use lib.ListN.{length, getD}
 use Rattle.rules.specs.Outcome.{good, bad}
 use Rattle.rules.specs.Checks.{Check}
+use Rattle.rules.specs.Bytes.{le}
 use Rattle.rules.specs.Segments.{loadsEnd}
 use Rattle.rules.specs.Relocations.{placeAt, live, items}
 use Rattle.rules.specs.Addresses.{natural, addressAt}
 use Rattle.rules.specs.Choices.{globalsIn, globalAt, endOf, choicesFor}
-use Rattle.rules.specs.Image.{imageOf}
-use Rattle.rules.specs.Words.{sourceAt, writes}
+use Rattle.rules.specs.Image.{imageOf, loadedAt}
+use Rattle.rules.specs.Words.{at, sourceAt, writes}
 use Rattle.rules.specs.Load.{loadOf, loaded}
 use Rattle.rules.specs.Memory.{bytesOf}
 use Rattle.rules.specs.declared.Refusal.{Refusal}
@@ -31,8 +32,8 @@ use Rattle.demands.proofs.Table.{table}
 use Rattle.demands.proofs.Refusals.{listed-one}
 use Rattle.demands.proofs.Plain.{segments-same, bare-checked, bare-words, passed-of, plain-module, plain-memory}
 use Rattle.demands.proofs.Sources.{tag-held, tag-unheld}
-use Rattle.demands.proofs.Standing.{Stands, passes-stands, in-run, word, tag, tag-small}
-use Rattle.demands.specs.Plain.{plainOf}
+use Rattle.demands.proofs.Standing.{Stands, passes-stands, in-run, word, tag, tag-small, held-image, packed-source}
+use Rattle.demands.specs.Plain.{plainImage, plainOf}
 use Rattle.demands.specs.Demands.{Relocates, topPlace, Holds, Abut, NoTop, Agrees, Matches, Alike, Rechosen}
 use Rattle.demands.specs.Demands.{refused-again, taken-again, Tags}
 
@@ -94,11 +95,16 @@ module _ (f : List ℕ) (bias n p : ℕ) (m : Module) where
   plain-takes choices c s =
       let r = s .reading in
       plain-module f m bias n (r .found) (r .headers) (r .loads) (passed-of (r .dynamic)) (entries-base f (m .dynamic) (r .entries))
-      (passed-of (r .relocations)) (c .relocates) (lending-fits f m bias n p (c .lends) .0)
-      (bare-checked f m (r .headers) (r .loads) bias (c .relocates) (c .addresses))
+      (passed-of (r .relocations)) (passed-of (r .packed)) (c .relocates) (lending-fits f m bias n p (c .lends) .0)
+      (rw segments (bare-checked f m (r .headers) (r .loads) bias image held (c .relocates) (c .addresses)))
       ∙ ap good (plain-memory f m bias n (r .found)
-      ∙ rw (segments-same f (m .headers) n (r .loads) (s .lent .holds) (m .headers .count) (omega arith))
-      (bare-words f m (r .headers) (r .loads) bias (c .relocates) (c .addresses) image (s .apart) (items m) (omega arith)))
+      ∙ rw segments (bare-words f m (r .headers) (r .loads) bias image held (c .relocates) (c .addresses) (s .apart) (items m) (omega arith)))
+    where
+      segments : plainImage f m n ≡ image
+      segments = segments-same f (m .headers) n (s .reading .loads) (s .lent .holds) (m .headers .count) (omega arith)
+
+      held : (x : ℕ) → le 8 image x ≡ loadedAt f (m .headers) x
+      held = held-image f bias n p choices m s
 
   bare-tagged : (choices : List ℕ) (x : ℕ) → NoTop f m x → getD bareMemory x 0 ≡ getD (taggedMemory choices) x 0
   bare-tagged choices x out =
@@ -187,6 +193,7 @@ module _ (f : List ℕ) (bias n p : ℕ) (m : Module) where
   tags choices c =
       let s = passes-stands f bias n p choices m c in
       record {
+        packed-sources = λ k e. packed-source f m bias k (e .after) ∙ ap (λ (x : ℕ). at (bias + x)) (sym (held-image f bias n p choices m s (placeAt f m k)));
         against-plain = record { plain = bareMemory; takes = plain-takes choices c s; agrees = agrees choices s };
         matches = matching choices s;
         rechosen = rechoosing choices s c;

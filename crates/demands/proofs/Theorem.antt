@@ -11,7 +11,7 @@ use Rattle.laws.proofs.Checks.{either}
 use Rattle.demands.proofs.Exactly.{exactly-read, exactly-examined, exactly-loaded, same-facts, Passes, taken-passes}
 use Rattle.demands.proofs.Lending.{lends}
 use Rattle.demands.proofs.Standing.{passes-stands, leaves}
-use Rattle.demands.proofs.Refusals.{examines, load-refusal, load-facts}
+use Rattle.demands.proofs.Refusals.{module-packs, examines, load-refusal, load-facts}
 use Rattle.demands.proofs.Guards.{idle}
 use Rattle.demands.proofs.Tags.{tags}
 use Rattle.demands.specs.Demands.{Leaves, Tags, Claim}
@@ -40,6 +40,7 @@ demands f bias n p choices = record {
   examine = exactly-examined f;
   load = exactly-loaded f bias n p choices;
   same-facts = same-facts f bias n p choices;
+  packs = module-packs f;
   lends = λ m passed. lends f m bias n p passed;
   leaves = of-taken f bias n p choices (Leaves f bias n p choices) (λ m c. leaves f bias n p choices m (passes-stands f bias n p choices m c));
   tags = of-taken f bias n p choices (Tags f bias n p choices) (λ m c. tags f bias n p m choices c);

@@ -1,6 +1,6 @@
 -- The three demands on the load, stated of the rules of document 01.
 -- Assumes nothing.
-use Prim.Native.Nat.{ℕ, _+_, _*_, _-_, _/_, _%_, _≤_, _<_}
+use Prim.Native.Nat.{ℕ, _+_, _*_, _-_, _/_, _%_, _^_, _≤_, _<_}
 use mathlib.Core.Path.{_≡_}
 use mathlib.Core.Bool.{true, _&&_}
 use mathlib.Core.List.{List}
@@ -17,7 +17,7 @@ use Rattle.rules.specs.Relocations.{placeAt, live, items, symbolBacking, target
 use Rattle.rules.specs.Examine.{factsOf, examineChecks, examinedOf}
 use Rattle.rules.specs.Choices.{globalsIn, globalAt, endOf}
 use Rattle.rules.specs.Image.{imageOf, loadedAt}
-use Rattle.rules.specs.Words.{Source, none, at, sourceAt, wordAt}
+use Rattle.rules.specs.Words.{Source, none, at, sourceAt, tagOf, wordAt}
 use Rattle.rules.specs.Load.{Loaded, loadChecks, loadOf, loaded, memoryAfter, planeAfter}
 use Rattle.rules.specs.declared.Refusal.{Refusal}
 use Rattle.rules.specs.declared.Headers.{Headers}
@@ -28,6 +28,7 @@ use Rattle.rules.specs.declared.Module.{Module}
 use Rattle.rules.specs.declared.Facts.{Facts}
 use Rattle.rules.specs.declared.Target.the-variants.{Undefined}
 use Rattle.demands.specs.Plain.{plainOf}
+use Rattle.demands.specs.Packed.{IsPacked, Packs}
 use Rattle.demands.specs.Lending.{Lends, InStep}
 use Rattle.demands.specs.Table.{readerNumbers, examineNumbers, loadNumbers, listed, positionLimit}
 
@@ -120,7 +121,12 @@ pub record Image (f : List ℕ) (m : Module) (n : ℕ) (image : List ℕ) : Type
   pub all-others : (x : ℕ) → ((i : ℕ) → i < m .headers .count → FilePart (headerAt f (m .headers) i) x → ⊥) → getD image x 0 ≡ 0
   pub loaded-words : (x : ℕ) → le 8 image x ≡ loadedAt f (m .headers) x
 
--- memory: each relocated word in its own eight bytes, and the image's bytes in no relocated word
+-- a packed place's address: the bias and the eight bytes that the image holds there, unsigned
+abbrev pub packedAddress : List ℕ → ℕ → Module → List ℕ → ℕ → ℕ
+packedAddress f bias m image k = bias + le 8 image (wordPlace f m k)
+
+-- memory: each relocated word in its own eight bytes, that of a packed place its address with the tag at that address; and the
+-- image's bytes in no relocated word
 pub record Memory (f : List ℕ) (bias n : ℕ) (m : Module) (image plane memory : List ℕ) : Type 0 where
   pub memory-length : length memory ≡ n
   pub word-inside : (k : ℕ) → Relocates f m k → wordPlace f m k + 8 ≤ n
@@ -128,6 +134,8 @@ pub record Memory (f : List ℕ) (bias n : ℕ) (m : Module) (image plane memory
       → (wordPlace f m j + 8 ≤ wordPlace f m k) ⊎ (wordPlace f m k + 8 ≤ wordPlace f m j)
   pub words : (k : ℕ) → Relocates f m k
       → le 8 memory (wordPlace f m k) ≡ wordAt f m bias n plane k
+  pub packed-words : (k : ℕ) → IsPacked m k
+      → le 8 memory (wordPlace f m k) ≡ packedAddress f bias m image k + 2 ^ 56 * tagOf plane bias n (at (packedAddress f bias m image k))
   pub other-bytes : (x : ℕ) → ((k : ℕ) → Relocates f m k → wordPlace f m k ≤ x → x < wordPlace f m k + 8 → ⊥)
       → getD memory x 0 ≡ getD image x 0
 
@@ -203,8 +211,9 @@ pub data Rechosen (f : List ℕ) (p : ℕ) (m : Module) (l : Loaded) (o : Outcom
   refused-again : (r : Refusal) → o ≡ bad r → r .number ≡ 14 → Rechosen f p m l o
   taken-again : (other : Loaded) → o ≡ good other → Alike f p m l other → Rechosen f p m l o
 
--- a load's tags: against the plain loader, against its own plane, and with other choices
+-- a load's tags: against the plain loader, against its own plane, and with other choices; a packed place's source is its address
 pub record Tags (f : List ℕ) (bias n p : ℕ) (choices : List ℕ) (m : Module) (l : Loaded) : Type 0 where
+  pub packed-sources : (k : ℕ) → IsPacked m k → sourceAt f m bias k ≡ at (packedAddress f bias m (imageOf f (m .headers) n) k)
   pub against-plain : Plain f bias n choices m (l .memory)
   pub matches : (k j : ℕ) → Relocates f m k → j < length (globalsIn f m) → Holds bias (globalAt (globalsIn f m) j) (sourceAt f m bias k)
       → Matches f bias n p m l k j
@@ -220,6 +229,7 @@ pub record Demands (f : List ℕ) (bias n p : ℕ) (choices : List ℕ) : Type 0
   pub examine : Exactly (examinedOf f) (examineChecks f) (factsOf f (theModule f))
   pub load : Exactly (loadOf f bias n p choices) (loadChecks f bias n p choices) (loaded f (theModule f) bias n p choices)
   pub same-facts : SameFacts f bias n p choices
+  pub packs : (m : Module) → moduleOf f ≡ good m → Packs f m
   pub lends : (m : Module) → loadsCheck f (m .headers) ≡ good tt → Lends f m bias n p
   pub leaves : (m : Module) (l : Loaded) → moduleOf f ≡ good m → loadOf f bias n p choices ≡ good l → Leaves f bias n p choices m l
   pub tags : (m : Module) (l : Loaded) → moduleOf f ≡ good m → loadOf f bias n p choices ≡ good l → Tags f bias n p choices m l

@@ -1,4 +1,5 @@
 pub mod Plain
+pub mod Packed
 pub mod Lending
 pub mod Table
 pub mod Steps

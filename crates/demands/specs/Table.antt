@@ -1,6 +1,6 @@
 -- Document 01's table of refusals, a row a number: which numbers a check gives, and at exactly which positions.
 -- Assumes nothing.
-use Prim.Native.Nat.{ℕ, zero, suc, _+_, _*_, _/_, _≤_, _<_}
+use Prim.Native.Nat.{ℕ, zero, suc, _+_, _*_, _/_, _%_, _≤_, _<_}
 use mathlib.Core.Path.{_≡_}
 use mathlib.Core.Bool.{Bool, true, false, _||_}
 use mathlib.Core.List.{List, [], _∷_, _++_}
@@ -13,16 +13,19 @@ use Rattle.rules.specs.Bytes.{le}
 use Rattle.rules.specs.Headers.{sizeCheck, wrongByte, identificationCheck, goodHeader, headerCheck}
 use Rattle.rules.specs.Segments.{headerAt, badLoad, loadsCheck, inMemory}
 use Rattle.rules.specs.Dynamic.{isDynamicAt, dynamicIn, dynamicOf, knownTags, badEntry, partnerless, entriesCheck}
-use Rattle.rules.specs.Tables.{tableBacking, relaAddress, relaBytes, descriptorAddress, descriptorBytes, relocationsOf, descriptorsOf}
+use Rattle.rules.specs.Tables.{tableBacking, relaAddress, relaBytes, packedAddress, packedBytes, descriptorAddress, descriptorBytes}
+use Rattle.rules.specs.Tables.{relocationsOf, descriptorsOf}
+use Rattle.rules.specs.Packed.{packedBefore, packedOf}
 use Rattle.rules.specs.Descriptors.{global, stepAt, tableStart, descriptorTable, globalsOf}
-use Rattle.rules.specs.Relocations.{items, targetAt, barred, badRelocation, relocationsCheck}
+use Rattle.rules.specs.Relocations.{items, positionAt, targetAt, barred, badRelocation, relocationsCheck}
 use Rattle.rules.specs.Lending.{lendingFits, lendingCheck}
 use Rattle.rules.specs.Addresses.{badAddress, addressesCheck}
 use Rattle.rules.specs.Choices.{badChoice, choicesFor}
 use Rattle.rules.specs.declared.Refusal.{Refusal}
 use Rattle.rules.specs.declared.Headers.{Headers}
 use Rattle.rules.specs.declared.Dynamic.{Dynamic}
-use Rattle.rules.specs.declared.Backing.the-variants.{Nowhere}
+use Rattle.rules.specs.declared.Backing.the-variants.{At, Nowhere}
+use Rattle.rules.specs.declared.Relocations.{Relocations}
 use Rattle.rules.specs.declared.Descriptors.{Descriptors}
 use Rattle.rules.specs.declared.Global.{Global}
 use Rattle.rules.specs.declared.Cursor.{Cursor}
@@ -31,7 +34,7 @@ use Rattle.rules.specs.declared.Module.{Module}
 -- ---- the numbers of each call; they need not be an interval
 
 abbrev pub readerNumbers : List ℕ
-readerNumbers = 1 ∷ 2 ∷ 3 ∷ 4 ∷ 5 ∷ 6 ∷ 7 ∷ 8 ∷ 9 ∷ []
+readerNumbers = 1 ∷ 2 ∷ 3 ∷ 4 ∷ 5 ∷ 6 ∷ 7 ∷ 15 ∷ 8 ∷ 9 ∷ []
 
 abbrev pub examineNumbers : List ℕ
 examineNumbers = readerNumbers ++ (10 ∷ 11 ∷ [])
@@ -39,9 +42,9 @@ examineNumbers = readerNumbers ++ (10 ∷ 11 ∷ [])
 abbrev pub loadNumbers : List ℕ
 loadNumbers = examineNumbers ++ (12 ∷ 13 ∷ 14 ∷ [])
 
--- the largest position: bytes left after so many descriptors
+-- positions are at most this: as many entries as there may be, and the words of a packed table that fills the file
 abbrev pub positionLimit : ℕ
-positionLimit = globalLimit
+positionLimit = entryLimit + fileLimit / 8
 
 abbrev pub listed : List ℕ → ℕ → Bool
 listed [] number = false
@@ -87,6 +90,16 @@ pub data EntryFault (f : List ℕ) (d : Dynamic) (i : ℕ) : Type 0 where
   no-partner : (k : ℕ) → Clear (badEntry knownTags f d) 0 (d .entries) → k < length knownTags → partnerless knownTags f d k ≡ true
       → i ≡ d .entries → EntryFault f d i
 
+-- the packed table is not backed; else its first word is a bitmap; else entries and packed places are too many with the places of a
+-- word, and were not before it
+pub data PackedFault (f : List ℕ) (h : Headers) (d : Dynamic) (entries i : ℕ) : Type 0 where
+  not-backed : tableBacking f h (packedAddress f d) (packedBytes f d) ≡ Nowhere → i ≡ 0 → PackedFault f h d entries i
+  bitmap-first : (at : ℕ) → tableBacking f h (packedAddress f d) (packedBytes f d) ≡ At at → 0 < packedBytes f d / 8
+      → le 8 f at % 2 ≡ 1 → i ≡ 0 → PackedFault f h d entries i
+  too-many : (at : ℕ) → tableBacking f h (packedAddress f d) (packedBytes f d) ≡ At at → i < packedBytes f d / 8
+      → le 8 f at % 2 ≡ 0 → entries + length (packedBefore f at i) ≤ entryLimit
+      → entryLimit < entries + length (packedBefore f at (i + 1)) → PackedFault f h d entries i
+
 -- the first descriptor that does not read
 pub record Unread (f : List ℕ) (h : Headers) (s : List ℕ) (number i : ℕ) : Type 0 where
   pub cursor : Cursor
@@ -101,10 +114,16 @@ pub data GlobalFault (f : List ℕ) (h : Headers) (s : List ℕ) (i : ℕ) : Typ
       → inMemory f h false (g .start) (granule * g .granules) ≡ false → GlobalFault f h s i
   left-over : (c : Cursor) → i ≡ globalLimit → Reaches f h s i c → c .position < length s → GlobalFault f h s i
 
--- the first item with a fault: its kind or symbol; else its place
-pub record ItemAt (f : List ℕ) (m : Module) (kind : Bool) (i : ℕ) : Type 0 where
-  pub first : Lowest (badRelocation f m) 0 (items m) i
-  pub by-kind : barred (targetAt f m i) ≡ kind
+-- the position of the first item with a fault
+pub record FirstAt (f : List ℕ) (m : Module) (fault : ℕ → Bool) (position : ℕ) : Type 0 where
+  pub item : ℕ
+  pub first : Lowest fault 0 (items m) item
+  pub reported : position ≡ positionAt f m item
+
+-- an item's kind or symbol; else its place
+pub record ItemAt (f : List ℕ) (m : Module) (kind : Bool) (position : ℕ) : Type 0 where
+  pub at : FirstAt f m (badRelocation f m) position
+  pub by-kind : barred (targetAt f m (at .item)) ≡ kind
 
 -- a wrong number of choices; else the first bad choice
 pub data ChoiceFault (gs : List Global) (choices : List ℕ) (i : ℕ) : Type 0 where
@@ -130,11 +149,13 @@ pub record Table (f : List ℕ) : Type 0 where
       × ((tableBacking f h (relaAddress f d) (relaBytes f d) ≡ Nowhere) ⊎ (entryLimit < relaBytes f d / 24)))
   pub row-7-descriptors : (h : Headers) (d : Dynamic) → Row (descriptorsOf f h d) (7 ∷ []) 7 (λ i. (i ≡ 1)
       × (tableBacking f h (descriptorAddress f d) (descriptorBytes f d) ≡ Nowhere))
+  pub row-15 : (h : Headers) (d : Dynamic) (r : Relocations) → r .entries ≤ entryLimit
+      → Row (packedOf f h d r) (15 ∷ []) 15 (PackedFault f h d (r .entries))
   pub row-8 : (h : Headers) (t : Descriptors) → Row (globalsOf f h t) (8 ∷ 9 ∷ []) 8 (Unread f h (descriptorTable f t) 8)
   pub row-9 : (h : Headers) (t : Descriptors) → Row (globalsOf f h t) (8 ∷ 9 ∷ []) 9 (GlobalFault f h (descriptorTable f t))
   pub row-10 : (m : Module) → Row (relocationsCheck f m) (10 ∷ 11 ∷ []) 10 (ItemAt f m true)
   pub row-11 : (m : Module) → Row (relocationsCheck f m) (10 ∷ 11 ∷ []) 11 (ItemAt f m false)
   pub row-12 : (m : Module) (bias n p : ℕ)
       → Row (lendingCheck f m bias n p) (12 ∷ []) 12 (λ i. (i ≡ 0) × (lendingFits f m bias n p ≡ false))
-  pub row-13 : (m : Module) (bias : ℕ) → Row (addressesCheck f m bias) (13 ∷ []) 13 (Lowest (badAddress f m bias) 0 (items m))
+  pub row-13 : (m : Module) (bias : ℕ) → Row (addressesCheck f m bias) (13 ∷ []) 13 (FirstAt f m (badAddress f m bias))
   pub row-14 : (gs : List Global) (choices : List ℕ) → Row (choicesFor gs choices) (14 ∷ []) 14 (ChoiceFault gs choices)

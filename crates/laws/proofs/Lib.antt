@@ -8,3 +8,5 @@ pub mod Globals
 pub mod Encoding
 pub mod Listed
 pub mod Places
+pub mod Packed
+pub mod PackedTable
