@@ -128,6 +128,10 @@ module _ (f : List ℕ) (t : Packed) where
     more = h;
   }
 
+  pub next-start : (c v : Run) → Next f t (standingAt (c .words) (c .rest) (c .left) (c .at)) v → Next f t c v
+  unfolding ahead
+  next-start c v n = record { read = n .read; found = n .found; onward = n .onward }
+
   module _ (c : Run) (words rest left place : ℕ) (h : Reading c words rest left place) (none : rest ≡ 0) where
     -- with no bit left, those of the words; so there is one
     reading-words : ahead f t c ≡ packedFrom f (t .at) (place + 8 * left) words (t .words - words)
