@@ -52,7 +52,7 @@ pub record Passing (rest₀ left₀ place₀ rest left place : ℕ) : Type 0 whe
   pub end : place + 8 * left ≡ place₀ + 8 * left₀
   pub same : placesIn left place rest ≡ placesIn left₀ place₀ rest₀
 
-module _ (rest₀ left₀ place₀ rest left place : ℕ) (h : Passing rest₀ left₀ place₀ rest left place) where
+module _ {rest₀ left₀ place₀ rest left place : ℕ} (h : Passing rest₀ left₀ place₀ rest left place) where
   pub passing-left : 0 < left
   passing-left = bits-left left rest (h .some) (h .bits)
 
@@ -128,11 +128,11 @@ module _ (f : List ℕ) (t : Packed) where
     more = h;
   }
 
-  pub next-start : (c v : Run) → Next f t (standingAt (c .words) (c .rest) (c .left) (c .at)) v → Next f t c v
+  pub next-start : (c : Run) {v : Run} → Next f t (standingAt (c .words) (c .rest) (c .left) (c .at)) v → Next f t c v
   unfolding ahead
-  next-start c v n = record { read = n .read; found = n .found; onward = n .onward }
+  next-start c n = record { read = n .read; found = n .found; onward = n .onward }
 
-  module _ (c : Run) (words rest left place : ℕ) (h : Reading c words rest left place) (none : rest ≡ 0) where
+  module _ {c : Run} {words rest left place : ℕ} (h : Reading c words rest left place) (none : rest ≡ 0) where
     -- with no bit left, those of the words; so there is one
     reading-words : ahead f t c ≡ packedFrom f (t .at) (place + 8 * left) words (t .words - words)
     reading-words = sym (h .same) ∙ ahead-words (standingAt words rest left place) none
@@ -147,21 +147,21 @@ module _ (f : List ℕ) (t : Packed) where
             let z = rw (reading-words, packed-none f (t .at) (place + 8 * left) words (t .words - words) (omega arith)) at (h .more) in
             absurd (omega arith)
 
-    module _ (w : ℕ) (is : w ≡ packedWord f (t .at) words) where
+    module _ {w : ℕ} (is : w ≡ packedWord f (t .at) words) where
       -- an even word is the next place
-      pub reading-even : (run : ℕ) → w % 2 ≡ 0 → run ≡ (w + 8) % 2 ^ 64
+      pub reading-even : {run : ℕ} → w % 2 ≡ 0 → run ≡ (w + 8) % 2 ^ 64
           → Next f t c (record { words = words + 1; rest = 0; left = 0; at = run; place = w })
-      reading-even run e r =
+      reading-even {run} e r =
           let v : Run = record { words = words + 1; rest = 0; left = 0; at = run; place = w } in
           let room = reading-room in
           let back : words + 1 - 1 ≡ words = omega arith in
           let fewer : t .words - words - 1 ≡ t .words - (words + 1) = omega arith in
           let l = packedFrom f (t .at) (w + 8) (words + 1) (t .words - (words + 1)) in
-          next-found c v l (omega arith)
-          (rw back (reading-words ∙ rw fewer at (packed-even f (t .at) (place + 8 * left) words w is (t .words - words) (omega arith) e)))
-          (λ p. let same : run + 8 * 0 ≡ w + 8 = omega arith in (
-              record { read = omega arith; some = λ l. absurd (omega arith); bits = omega arith; few = omega arith; low = omega arith },
-              ahead-words v refl ∙ rw same,
+          let first = packed-even f (t .at) (place + 8 * left) words w is (t .words - words) (omega arith) e in
+          next-found c v l (omega arith) (rw back (reading-words ∙ rw fewer at first)) (λ p.
+          let same : run + 8 * 0 ≡ w + 8 = omega arith in (
+            record { read = omega arith; some = λ l. absurd (omega arith); bits = omega arith; few = omega arith; low = omega arith },
+            ahead-words v refl ∙ rw same,
           ))
 
       -- an odd word is read, and its bits are left
@@ -171,41 +171,33 @@ module _ (f : List ℕ) (t : Packed) where
           let room = reading-room in
           let low = h .standing .low in
           let back : words + 1 - 1 ≡ words = omega arith in
-          let fewer : t .words - words - 1 ≡ t .words - (words + 1) = omega arith in record {
+          let fewer : t .words - words - 1 ≡ t .words - (words + 1) = omega arith in
+          let first = packed-odd f (t .at) (place + 8 * left) words w is (t .words - words) (omega arith) e in record {
             standing = record { read = omega arith; some = λ l. omega arith; bits = omega arith; few = omega arith; low = omega arith };
-            same = rw back (sym (reading-words
-                ∙ rw fewer at (packed-odd f (t .at) (place + 8 * left) words w is (t .words - words) (omega arith) e)));
+            same = rw back (sym (reading-words ∙ rw fewer at first));
             more = h .more;
           }
 
-  -- with a bit left, passing over those that name no place begins
-  module _ (c : Run) (words rest₀ left₀ place₀ : ℕ) (h : Reading c words rest₀ left₀ place₀) (some : rest₀ ≡ 0 → ⊥) where
-    pub passing-start : Passing rest₀ left₀ place₀ rest₀ left₀ place₀
-    passing-start = record { some = omega arith; bits = h .standing .bits; few = omega arith; end = refl; same = refl }
-
-    -- and it ends at the next place
-    pub passing-found : (rest left place : ℕ) → Passing rest₀ left₀ place₀ rest left place → (rest % 2 ≡ 0 → ⊥)
-        → Next f t c (record { words = words; rest = rest / 2; left = left - 1; at = place + 8; place = place })
-    unfolding ahead
-    passing-found rest left place p e =
-        let v : Run = record { words = words; rest = rest / 2; left = left - 1; at = place + 8; place = place } in
-        let l = passing-left rest₀ left₀ place₀ rest left place p in
-        let low = h .standing .low in
-        let few = h .standing .few in
-        let fewer = p .few in
-        let end = p .end in
-        let read = h .standing .read in
-        let s : 1 ≤ words = h .standing .some (omega arith) in
-        let same : place₀ + 8 * left₀ ≡ place + 8 + 8 * (left - 1) = omega arith in
-        next-found c v (ahead f t v) s
-        (sym (h .same) ∙ rw (← p .same, one-named left place rest l e, same))
-        (λ _. (
-            record {
-              read = read;
-              some = λ _. s;
-              bits = half-bits left rest l (p .bits);
-              few = omega arith;
-              low = omega arith;
-            },
-            refl,
-        ))
+  -- passing over bits from there on ends at the next place
+  pub passing-found : {c : Run} {words rest₀ left₀ place₀ rest left place : ℕ} → Reading c words rest₀ left₀ place₀ → (rest₀ ≡ 0 → ⊥)
+      → Passing rest₀ left₀ place₀ rest left place → (rest % 2 ≡ 0 → ⊥)
+      → Next f t c (record { words = words; rest = rest / 2; left = left - 1; at = place + 8; place = place })
+  unfolding ahead
+  passing-found {c} {words} {rest₀} {left₀} {place₀} {rest} {left} {place} h some p e =
+      let v : Run = record { words = words; rest = rest / 2; left = left - 1; at = place + 8; place = place } in
+      let s = h .standing in
+      let low = s .low in
+      let few = s .few in
+      let read : 1 ≤ words = s .some (omega arith) in
+      let l = passing-left p in
+      let fewer = p .few in
+      let end = p .end in
+      let same : place₀ + 8 * left₀ ≡ place + 8 + 8 * (left - 1) = omega arith in
+      let stands : Standing f t v = record {
+        read = s .read;
+        some = λ _. read;
+        bits = half-bits left rest l (p .bits);
+        few = omega arith;
+        low = omega arith;
+      } in
+      next-found c v (ahead f t v) read (sym (h .same) ∙ rw (← p .same, one-named left place rest l e, same)) (λ _. (stands, refl))
