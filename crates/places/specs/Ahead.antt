@@ -18,9 +18,11 @@ ahead f t c =
 abbrev pub placeLimit : ℕ
 placeLimit = 2 ^ 60
 
--- no more words are read than there are, the bits left hold every bit, and the run is not far above the last even word
+-- no more words are read than there are, bits are left of a word that was read, the bits left hold every bit, and the run
+-- is not far above the last even word
 pub record Standing (f : List ℕ) (t : Packed) (c : Run) : Type 0 where
   pub read : c .words ≤ t .words
+  pub some : 0 < c .rest → 1 ≤ c .words
   pub bits : c .rest < 2 ^ c .left
   pub few : c .left ≤ 63
   pub low : c .at + 8 * c .left ≤ placeLimit + 8 + bitmapBytes * c .words

@@ -46,13 +46,12 @@ pub fn next_place(f: &[u8], t: Packed, c: Run) -> Run
     requires { ⌜ Standing (now f) t c × (0 < length (ahead (now f) t c)) ⌝ }
     ensures { λ v. ⌜ Next (now (f .entry)) t c v ⌝ }
 {
-    let at = t.at;
     let mut words = c.words;
     let mut rest = c.rest;
     let mut left = c.left;
     let mut place = c.at;
     while rest == 0 {
-        let w = word_at(f, at, words);
+        let w = word_at(f, t.at, words);
         let run = place + 8 * left;
         words += 1;
         if w % 2 == 0 {
