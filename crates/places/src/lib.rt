@@ -1,9 +1,11 @@
 // The packed places one after the other: the words of a packed table, read as their places are asked for.
 ghost use mathlib.Core.Path.{_≡_};
-ghost use Prim.Native.Nat.{_<_};
+ghost use Prim.Native.Nat.{_-_, _<_};
 ghost use lib.ListN.{length};
-ghost use Rattle.rules.specs.Packed.{packedWord};
-ghost use Rattle.places.specs.Ahead.{ahead, Standing, Next};
+ghost use Rattle.rules.specs.Packed.{packedWord, packedBefore};
+ghost use Rattle.rules.specs.Relocations.{items};
+ghost use Rattle.places.specs.Ahead.{ahead, Standing, Next, Reached, Comes};
+use rules::Module;
 use rules::Packed;
 
 // Bytes of a packed word, and of a place.
@@ -79,4 +81,16 @@ pub fn next_place(f: &[u8], t: Packed, c: Run) -> Run
         at: place + 8,
         place: place,
     }
+}
+
+// Comes to item i of a module: its entries stand in their table, and are passed by.
+pub fn reach(f: &[u8], m: Module, c: Run, i: u32) -> Run
+    requires { ⌜ Reached (now f) m c (i - m .relocations .entries) × (i < items m) × (m .packed .places ≡ length (packedBefore (now f) (m .packed .at) (m .packed .words))) ⌝ }
+    ensures { λ v. ⌜ Comes (now (f .entry)) m i v ⌝ }
+{
+    if i < m.relocations.entries {
+        return c;
+    }
+    let t = m.packed;
+    next_place(f, t, c)
 }
