@@ -9,12 +9,12 @@ use native.Mathlib.Nat.{add-zero, add-suc}
 use native.Mathlib.Omega.{arith}
 use lib.ListN.{length, getD}
 use lib.Dec.{eqb}
-use borrow.Author.Tests.{le-leb, lt-leb}
 use Rattle.rules.specs.Limits.{entryLimit}
 use Rattle.rules.specs.First.{countBelow}
 use Rattle.rules.specs.Packed.{Named, named, packedBefore}
-use Rattle.rules.specs.Relocations.{kindAt, packedItem, placeAt, live, items, positionAt, wordsOf}
+use Rattle.rules.specs.Relocations.{kindAt, packedItem, live, wordsOf}
 use Rattle.rules.specs.declared.Module.{Module}
+use Rattle.laws.proofs.Items.{entry-live, packed-live, packed-place, packed-position}
 use Rattle.laws.proofs.Packed.{each-at, ordered-at, before-none}
 use Rattle.laws.proofs.PackedTable.{Good}
 use Rattle.demands.proofs.Packed.{Earlier, NamedBelow, before-each, before-ordered, before-stands}
@@ -35,28 +35,11 @@ count-all g a (suc n) e =
     rw (add-suc, z, ih) (omega arith)
 
 module _ (f : List ℕ) (m : Module) where
-  -- a packed item, and an entry
-  pub packed-place : (k : ℕ) → m .relocations .entries ≤ k → placeAt f m k ≡ packedItem f m k .place
-  unfolding placeAt
-  packed-place k l = rw (le-leb (m .relocations .entries) k l)
-
-  pub packed-position : (k : ℕ) → m .relocations .entries ≤ k → positionAt f m k ≡ m .relocations .entries + packedItem f m k .word
-  unfolding positionAt
-  packed-position k l = rw (le-leb (m .relocations .entries) k l)
-
-  pub packed-live : (k : ℕ) → m .relocations .entries ≤ k → live f m k ≡ true
-  unfolding live
-  packed-live k l = rw (le-leb (m .relocations .entries) k l)
-
-  entry-live : (k : ℕ) → k < m .relocations .entries → live f m k ≡ not (eqb (kindAt f m k) 0)
-  unfolding live
-  entry-live k l = rw (lt-leb (m .relocations .entries) k l)
-
   words-counted : wordsOf f m ≡ countBelow (λ i. not (eqb (kindAt f m i) 0)) (m .relocations .entries) + m .packed .places
   unfolding wordsOf
   words-counted =
-      count-all (live f m) (m .relocations .entries) (m .packed .places) packed-live
-      ∙ ap (λ (x : ℕ). x + m .packed .places) (count-same (live f m) _ (m .relocations .entries) entry-live)
+      count-all (live f m) (m .relocations .entries) (m .packed .places) (packed-live f m)
+      ∙ ap (λ (x : ℕ). x + m .packed .places) (count-same (live f m) _ (m .relocations .entries) (entry-live f m))
 
   module _ (good : Good f (m .relocations .entries) (m .packed)) where
     abbrev places : List Named
@@ -84,7 +67,7 @@ module _ (f : List ℕ) (m : Module) where
         let s = each-at (NamedBelow f (m .packed .at) (m .packed .words)) (named 0 0) places
         (before-each f (m .packed .at) (m .packed .words) (even-first k e)) (k - m .relocations .entries) (below k e) in (
           packedItem f m k .word,
-          record { inside = s .0; position = packed-position k (e .after); names = rw (packed-place k (e .after)) (s .1) },
+          record { inside = s .0; position = packed-position f m k (e .after); names = rw (packed-place f m k (e .after)) (s .1) },
         )
 
     all-listed : (w p : ℕ) → w < m .packed .words → Names f (m .packed .at) w p → Listed f m w p
@@ -96,15 +79,15 @@ module _ (f : List ℕ) (m : Module) where
         record {
           item = k;
           packed = record { after = omega arith; listed = let c = good .counted in let b = s .below in omega arith };
-          position = packed-position k (omega arith) ∙ ap (λ (x : Named). m .relocations .entries + x .word) x;
-          place = packed-place k (omega arith) ∙ ap (λ (x : Named). x .place) x;
+          position = packed-position f m k (omega arith) ∙ ap (λ (x : Named). m .relocations .entries + x .word) x;
+          place = packed-place f m k (omega arith) ∙ ap (λ (x : Named). x .place) x;
         }
 
     in-order : (j k : ℕ) → j < k → IsPacked m j → IsPacked m k → Before f m j k
     in-order j k l a b =
         let u = a .after in
         let v = b .after in
-        rw (packed-position j u, packed-position k v, packed-place j u, packed-place k v)
+        rw (packed-position f m j u, packed-position f m k v, packed-place f m j u, packed-place f m k v)
         (⊎-elim
         (λ (q : packedItem f m j .word < packedItem f m k .word). inl (omega arith))
         (λ (q : (packedItem f m j .word ≡ packedItem f m k .word) × (packedItem f m j .place < packedItem f m k .place)).
@@ -117,7 +100,7 @@ module _ (f : List ℕ) (m : Module) where
       named-by = named-by;
       all-listed = all-listed;
       in-order = in-order;
-      unskipped = λ k e. packed-live k (e .after);
+      unskipped = λ k e. packed-live f m k (e .after);
       counted = words-counted;
       few = good .few few;
     }

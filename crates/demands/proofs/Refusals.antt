@@ -8,7 +8,7 @@ use mathlib.Core.Logic.{_⊎_, inl, inr, ⊎-elim}
 use native.Mathlib.Omega.{arith}
 use lib.ListN.{length}
 use lib.Dec.{leb, ltb, eqb}
-use borrow.Author.Tests.{leb-true, lt-leb, ltb-true, eqb-true}
+use borrow.Author.Tests.{leb-true, ltb-true, eqb-true}
 use Rattle.rules.specs.Outcome.{Outcome, good, bad, refusal, found, passed, require}
 use Rattle.rules.specs.Checks.{Check, All, First}
 use Rattle.rules.specs.Limits.{entryLimit, globalLimit, headerLimit, dynamicLimit}
@@ -39,6 +39,7 @@ use Rattle.rules.proofs.FirstLaws.{count-le}
 use Rattle.rules.proofs.OutcomeLaws.{good-bad, bad-good, never, and-left, and-right, andThen-good, require-held, cond-held}
 use Rattle.rules.proofs.ChecksLaws.{all-append}
 use Rattle.laws.proofs.Checks.{good-same, le-or-lt}
+use Rattle.laws.proofs.Items.{entry-position}
 use Rattle.laws.proofs.PackedTable.{Good, table-short, packed-good}
 use Rattle.laws.proofs.Globals.{globals-count}
 use Rattle.demands.proofs.Reading.{module-reads}
@@ -241,10 +242,6 @@ pub module-counted : (f : List ℕ) (m : Module) → moduleOf f ≡ good m
 module-counted f m e =
     let r = module-reads f m e in
     (module-packs f m e .few, globals-count f (m .headers) (m .descriptors) (globalsIn f m) (r .loads) (r .globals))
-
-entry-position : (f : List ℕ) (m : Module) (k : ℕ) → k < m .relocations .entries → positionAt f m k ≡ k
-unfolding positionAt
-entry-position f m k l = rw (lt-leb (m .relocations .entries) k l)
 
 module-reported : (f : List ℕ) (m : Module) → moduleOf f ≡ good m → Reported f m
 module-reported f m e k l =

@@ -7,11 +7,10 @@ use mathlib.Core.Logic.{inl, inr, ⊎-elim}
 use native.Mathlib.Nat.{add-zero}
 use native.Mathlib.Omega.{arith}
 use lib.ListN.{length}
-use borrow.Author.Tests.{le-leb}
 use Rattle.rules.specs.Limits.{addressLimit}
 use Rattle.rules.specs.Bytes.{le}
 use Rattle.rules.specs.Segments.{loadsEnd}
-use Rattle.rules.specs.Relocations.{placeAt, addendAt, live, items, targetAt}
+use Rattle.rules.specs.Relocations.{placeAt, live, items}
 use Rattle.rules.specs.Addresses.{natural, addressAt}
 use Rattle.rules.specs.Choices.{globalsIn}
 use Rattle.rules.specs.Image.{imageOf, loadedAt}
@@ -21,6 +20,7 @@ use Rattle.rules.specs.Load.{loaded}
 use Rattle.rules.specs.declared.Module.{Module}
 use Rattle.laws.proofs.Checks.{le-or-lt}
 use Rattle.laws.proofs.Globals.{Rising, globals-rising}
+use Rattle.laws.proofs.Items.{packed-live, packed-addend, packed-target}
 use Rattle.laws.proofs.Places.{address-small, places-apart}
 use Rattle.laws.proofs.Writes.{Apart, writes-length, writes-at, writes-other, le-bytes}
 use Rattle.demands.proofs.Exactly.{Passes}
@@ -29,7 +29,7 @@ use Rattle.demands.proofs.Lending.{Lent, memory-lent, plane-lent, lendi
 use Rattle.demands.proofs.Plane.{Chosen, choices-chosen, plane-holds, plane-small}
 use Rattle.demands.proofs.Image.{image-size, image-holds}
 use Rattle.demands.proofs.Sources.{tagOf-small}
-use Rattle.demands.proofs.Items.{packed-live}
+
 use Rattle.demands.specs.Demands.{Relocates, Leaves}
 
 -- a run of items from the first
@@ -39,13 +39,11 @@ in-run k n l = omega arith
 -- a packed place's source and address are the bias and what its place holds
 pub packed-source : (f : List ℕ) (m : Module) (bias k : ℕ) → m .relocations .entries ≤ k
     → sourceAt f m bias k ≡ at (bias + loadedAt f (m .headers) (placeAt f m k))
-unfolding targetAt
-packed-source f m bias k l = rw (le-leb (m .relocations .entries) k l)
+packed-source f m bias k l = rw (packed-target f m k l)
 
 packed-address : (f : List ℕ) (m : Module) (bias k : ℕ) → m .relocations .entries ≤ k
     → natural (addressAt f m bias k) ≡ bias + loadedAt f (m .headers) (placeAt f m k)
-unfolding targetAt addendAt
-packed-address f m bias k l = rw (le-leb (m .relocations .entries) k l) (add-zero _)
+packed-address f m bias k l = rw (packed-target f m k l, packed-addend f m k l) (add-zero _)
 
 -- and its word that address, with the tag at it
 packed-word : (f : List ℕ) (m : Module) (bias n : ℕ) (plane : List ℕ) (k : ℕ) → m .relocations .entries ≤ k

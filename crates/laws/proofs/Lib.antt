@@ -7,6 +7,7 @@ pub mod Writes
 pub mod Globals
 pub mod Encoding
 pub mod Listed
+pub mod Items
 pub mod Places
 pub mod Packed
 pub mod PackedTable

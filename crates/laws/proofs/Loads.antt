@@ -68,6 +68,16 @@ module _ (f : List ℕ) (h : Headers) (passed : loadsCheck f h ≡ good tt) wher
       (λ t. before))
       (eq-or-lt-of-le (le-of-suc-le-suc l))
 
+  -- and within the limit
+  pub end-limit : (k : ℕ) → k ≤ h .count → endBefore f h k ≤ memoryLimit
+  unfolding endBefore
+  end-limit zero u = omega arith
+  end-limit (suc k) u =
+      let before = end-limit k (omega arith) in
+      cond-case (λ z. z ≤ memoryLimit) (isLoad (headerAt f h k)) _ _
+      (λ t. load-good k (omega arith) t .in-limit)
+      (λ t. before)
+
   pub loads-apart : (i j : ℕ) → i < j → j < h .count → isLoad (headerAt f h i) ≡ true → isLoad (headerAt f h j) ≡ true
       → headerAt f h i .vaddr + headerAt f h i .memsz ≤ headerAt f h j .vaddr
   loads-apart i j l u a b = let e = load-end j i (omega arith) l a in let g = load-good j u b in omega arith
