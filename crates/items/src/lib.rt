@@ -1,15 +1,14 @@
-// The items: what is relocated, each by its index; today the entries of the RELA table. An item's fields, and its target.
+// The entries of the RELA table: an entry's fields, and its target.
 ghost use mathlib.Core.Path.{_≡_};
 ghost use mathlib.Core.Bool.{_||_};
 ghost use Prim.Native.Nat.{_+_};
 ghost use lib.Dec.{eqb};
 ghost use Rattle.rules.specs.Bytes.{le};
-ghost use Rattle.rules.specs.Relocations.{abs64, globDat, entryAt, symbolBacking, symbolOf, targetOf, namedTarget, target, targetAt, barred};
+ghost use Rattle.rules.specs.Relocations.{abs64, globDat, entryAt, symbolBacking, symbolOf, targetOf, namedTarget, target, barred};
 use rules::Backing;
 use rules::Entry;
 use rules::Headers;
 use rules::MEMORY_LIMIT;
-use rules::Module;
 use rules::Relocations;
 use rules::Symbol;
 use rules::Target;
@@ -149,18 +148,6 @@ pub fn find_target(f: &[u8], h: Headers, symbols: Entry, kind: u32, symbol: u32)
         return named_target(f, p);
     }
     Target::Barred
-}
-
-// What an entry of a module refers to.
-pub fn target_at(f: &[u8], m: Module, i: u32) -> Target
-    ensures { λ v. ⌜ v ≡ targetAt (now (f .entry)) m i ⌝ }
-{
-    let r = m.relocations;
-    let h = m.headers;
-    let symbols = m.symbols;
-    let kind = kind_at(f, r, i);
-    let symbol = symbol_at(f, r, i);
-    find_target(f, h, symbols, kind, symbol)
 }
 
 // A target that check 10 refuses.

@@ -2,10 +2,10 @@
 -- Assumes nothing.
 use mathlib.Core.Path.{sym, _∙_}
 use Rattle.rules.specs.Addresses.{addressOf}
-use Rattle.relocations.proofs.Laws.{outside-out, at-in}
+use Rattle.judging.proofs.Laws.{outside-out, at-in}
 use borrow.Author.Needs.{needs}
-use Rattle.relocations.proofs.is_outside.Statement.{statement}
-use Rattle.relocations.proofs.is_outside.Tie as tie
+use Rattle.judging.proofs.is_outside.Statement.{statement}
+use Rattle.judging.proofs.is_outside.Tie as tie
 
 returns : tie.Need-returns
 returns c =

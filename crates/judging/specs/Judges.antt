@@ -1,0 +1,32 @@
+-- One item of what is relocated, by itself.
+-- Assumes nothing.
+use Prim.Native.Nat.{ℕ}
+use mathlib.Core.Path.{_≡_}
+use mathlib.Core.Bool.{true, cond}
+use mathlib.Core.List.{List}
+use Rattle.rules.specs.Relocations.{placeAt, live, targetAt, barred, placeFits}
+use Rattle.rules.specs.Addresses.{badAddress}
+use Rattle.rules.specs.declared.Module.{Module}
+use Rattle.segments.specs.Spans.{Sound}
+use Rattle.judging.specs.declared.Judged.{Judged}
+
+-- its fault: 0 where it is skipped or nothing is wrong so far, else 10 or 11
+unfoldable pub itemFault : List ℕ → Module → ℕ → ℕ
+itemFault f m i =
+    cond (live f m i) (cond (barred (targetAt f m i)) 10 (cond (placeFits f (m .headers) (placeAt f m i)) 0 11)) 0
+
+-- what is kept of it for the search of a repeated place: its place, or 1 where it is skipped; a place that fits is a multiple of 8
+abbrev pub skippedKey : ℕ
+skippedKey = 1
+
+unfoldable pub keyAt : List ℕ → Module → ℕ → ℕ
+keyAt f m i = cond (live f m i) (placeAt f m i) skippedKey
+
+-- what is found of it: its fault; where it has none its key, how many words it relocates, and whether its address is out of range;
+-- and the PT_LOAD found last
+pub record Judges (f : List ℕ) (m : Module) (bias i : ℕ) (j : Judged) : Type 0 where
+  pub fault : j .number ≡ itemFault f m i
+  pub key : j .number ≡ 0 → j .key ≡ keyAt f m i
+  pub words : j .number ≡ 0 → j .words ≡ cond (live f m i) 1 0
+  pub outside : j .number ≡ 0 → j .outside ≡ badAddress f m bias i
+  pub sound : Sound f (m .headers) true (j .span)

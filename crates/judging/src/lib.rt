@@ -1,0 +1,134 @@
+// Checks 10, 11 and 13 of one item by itself: an entry of the RELA table, or a packed place.
+ghost use mathlib.Core.Path.{_≡_};
+ghost use mathlib.Core.Bool.{true};
+ghost use Prim.Native.Nat.{_≤_, _<_};
+ghost use Rattle.rules.specs.Outcome.{good};
+ghost use Rattle.rules.specs.Segments.{loadsCheck};
+ghost use Rattle.rules.specs.Relocations.{placeAt};
+ghost use Rattle.rules.specs.Addresses.{addressOf, outOfRange};
+ghost use Rattle.segments.specs.Spans.{Sound};
+ghost use Rattle.places.specs.Ahead.{Here};
+ghost use Rattle.judging.specs.Judges.{skippedKey, Judges};
+use places::Run;
+use rules::Address;
+use rules::Module;
+use rules::Target;
+use segments::Span;
+
+// Kept for a skipped item in the search for a repeated place: no place that fits.
+pub const SKIPPED: u64 = 1;
+
+// What is found of one item.
+pub struct Judged {
+    // 0, 10 or 11.
+    pub number: u8,
+    // Its place, or SKIPPED.
+    pub key: u64,
+    // How many words it relocates.
+    pub words: u32,
+    // Its address is out of range.
+    pub outside: bool,
+    // The PT_LOAD found last.
+    pub span: Span,
+}
+
+// An address out of range.
+fn is_outside(bias: u64, t: Target, addend: u64) -> bool
+    ensures { λ v. ⌜ v ≡ outOfRange (addressOf bias t addend) ⌝ }
+{
+    let a = words::address_of(bias, t, addend);
+    let Address::At(_) = a else {
+        return true;
+    };
+    false
+}
+
+// An item with a fault.
+fn faulty(number: u8, last: Span) -> Judged
+    ensures { λ v. ⌜ v ≡ record { number = number; key = skippedKey; words = 0; outside = true; span = last } ⌝ }
+{
+    Judged {
+        number: number,
+        key: SKIPPED,
+        words: 0,
+        outside: true,
+        span: last,
+    }
+}
+
+// An entry of the RELA table.
+fn judge_entry(f: &[u8], m: Module, bias: u64, last: Span, i: u32) -> Judged
+    requires { ⌜ Sound (now f) (m .headers) true last × (i < m .relocations .entries) ⌝ }
+    ensures { λ v. ⌜ Judges (now (f .entry)) m bias i v ⌝ }
+{
+    let r = m.relocations;
+    let kind = items::kind_at(f, r, i);
+    if kind == 0 {
+        return Judged {
+            number: 0,
+            key: SKIPPED,
+            words: 0,
+            outside: false,
+            span: last,
+        };
+    }
+    let h = m.headers;
+    let symbols = m.symbols;
+    let symbol = items::symbol_at(f, r, i);
+    let t = items::find_target(f, h, symbols, kind, symbol);
+    if items::is_barred(t) {
+        return faulty(10, last);
+    }
+    let place = items::place_at(f, r, i);
+    if place % 8 != 0 {
+        return faulty(11, last);
+    }
+    let span = segments::hold_writable(f, h, last, place, 8);
+    if span.size == 0 {
+        return faulty(11, last);
+    }
+    let addend = items::addend_at(f, r, i);
+    let outside = is_outside(bias, t, addend);
+    Judged {
+        number: 0,
+        key: place,
+        words: 1,
+        outside: outside,
+        span: span,
+    }
+}
+
+// A packed place.
+fn judge_packed(f: &[u8], m: Module, bias: u64, last: Span, place: u64) -> Judged
+    requires { ⌜ Sound (now f) (m .headers) true last × (loadsCheck (now f) (m .headers) ≡ good tt) ⌝ }
+    ensures { λ v. ⌜ ((i : ℕ) → m .relocations .entries ≤ i → placeAt (now (f .entry)) m i ≡ place → Judges (now (f .entry)) m bias i v) ⌝ }
+{
+    if place % 8 != 0 {
+        return faulty(11, last);
+    }
+    let h = m.headers;
+    let span = segments::hold_writable(f, h, last, place, 8);
+    if span.size == 0 {
+        return faulty(11, last);
+    }
+    let loaded = loaded::loaded_at(f, h, place);
+    let outside = is_outside(bias, Target::Defined(loaded), 0);
+    Judged {
+        number: 0,
+        key: place,
+        words: 1,
+        outside: outside,
+        span: span,
+    }
+}
+
+// One item, but for the places of the items before it; a packed place is the one that was found last.
+pub fn judge(f: &[u8], m: Module, bias: u64, last: Span, c: Run, i: u32) -> Judged
+    requires { ⌜ Sound (now f) (m .headers) true last × (loadsCheck (now f) (m .headers) ≡ good tt) × Here (now f) m c i ⌝ }
+    ensures { λ v. ⌜ Judges (now (f .entry)) m bias i v ⌝ }
+{
+    if i < m.relocations.entries {
+        return judge_entry(f, m, bias, last, i);
+    }
+    judge_packed(f, m, bias, last, c.place)
+}
