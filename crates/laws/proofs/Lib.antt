@@ -10,3 +10,4 @@ pub mod Listed
 pub mod Places
 pub mod Packed
 pub mod PackedTable
+pub mod Loaded
