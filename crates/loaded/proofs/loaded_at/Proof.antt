@@ -1,54 +1,18 @@
-use native.Mathlib.Omega.{arith}
+-- Eight bytes that are backed are loaded from where they are backed; others are read one by one.
+-- Assumes nothing.
+use mathlib.Core.Path.{sym, _∙_}
 use borrow.Author.Needs.{needs}
+use Rattle.laws.proofs.Loaded.{loaded-backed}
 use Rattle.loaded.proofs.loaded_at.Statement.{statement}
 use Rattle.loaded.proofs.loaded_at.Tie as tie
-use Rattle.loaded.proofs.loaded_at.Reads as reads
-use Rattle.loaded.proofs.loaded_at.Lts as lts
-use Rattle.loaded.proofs.loaded_bytes.Reads as loaded-bytes-reads
-use Rattle.reads.proofs.read64.Reads as read64-reads
-use Rattle.segments.proofs.backing_of.Reads as backing-of-reads
 
--- src/lib.rt:40:9
-backing-of-requires : tie.Need-backing-of-requires
-backing-of-requires c κs = search needs
-
--- src/lib.rt:41:21
-enum-known-p : tie.Need-enum-known-p
-enum-known-p c = search needs
-
--- src/lib.rt:42:9
-enum-told : tie.Need-enum-told
-enum-told c = search needs
-
--- src/lib.rt:42:9
-loaded-bytes-requires : tie.Need-loaded-bytes-requires
-loaded-bytes-requires c κs = search needs
-
--- src/lib.rt:42:9
-returns : tie.Need-returns
-returns c = search needs
-
--- src/lib.rt:44:22
-cast-read64 : tie.Need-cast-read64
-cast-read64 c = search needs
-
--- src/lib.rt:44:5
-read64-requires : tie.Need-read64-requires
-read64-requires c κs = search needs
-
--- src/lib.rt:36:1
 returns-2 : tie.Need-returns-2
-returns-2 c = ?
+returns-2 c =
+    let W = c .before .before in
+    let B = W .before .before in
+    let a = B .before .before .args in
+    c .read64 .ensures ∙ sym (loaded-backed (a .f .now) (a .h) (B .before .before .pre .0) (a .place) _ (sym (B .backing-of .ensures) ∙ W .p .given .1))
 
 pub loaded-at-spec : {M : Type 1} → statement M
 loaded-at-spec =
-    tie.close
-    (tie.spec
-    backing-of-requires
-    enum-known-p
-    enum-told
-    loaded-bytes-requires
-    returns
-    cast-read64
-    read64-requires
-    returns-2)
+    tie.close (tie.spec (search needs) (search needs) (search needs) (search needs) (search needs) (search needs) (search needs) returns-2)
