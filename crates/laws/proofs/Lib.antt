@@ -11,3 +11,4 @@ pub mod Items
 pub mod Places
 pub mod Packed
 pub mod PackedTable
+pub mod Loaded
