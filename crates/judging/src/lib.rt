@@ -1,7 +1,7 @@
 // Checks 10, 11 and 13 of one item by itself: an entry of the RELA table, or a packed place.
 ghost use mathlib.Core.Path.{_≡_};
 ghost use mathlib.Core.Bool.{true};
-ghost use Prim.Native.Nat.{_≤_, _<_};
+ghost use Prim.Native.Nat.{ℕ, _≤_, _<_};
 ghost use Rattle.rules.specs.Outcome.{good};
 ghost use Rattle.rules.specs.Segments.{loadsCheck};
 ghost use Rattle.rules.specs.Relocations.{placeAt};

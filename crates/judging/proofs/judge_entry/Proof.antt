@@ -5,17 +5,20 @@ use mathlib.Core.Path.{_≡_, sym, _∙_}
 use mathlib.Core.Bool.{true, false}
 use native.Mathlib.Omega.{arith}
 use Rattle.rules.specs.Relocations.{targetAt, barred}
-use Rattle.relocations.proofs.Laws.{target-read, judged-skipped, judged-barred, judged-misfit, judged-good, fits-odd, fits-held}
+use Rattle.judging.proofs.Laws.{judged-skipped, judged-barred, judged-misfit, judged-good, fits-odd, fits-held}
+use Rattle.judging.proofs.Laws.{entry-skipped, entry-kept, target-read}
+use Rattle.laws.proofs.Items.{entry-place, entry-addend}
 use borrow.Author.Needs.{needs}
-use Rattle.relocations.proofs.judge.Statement.{statement}
-use Rattle.relocations.proofs.judge.Tie as tie
+use Rattle.judging.proofs.judge_entry.Statement.{statement}
+use Rattle.judging.proofs.judge_entry.Tie as tie
 
 returns : tie.Need-returns
 returns c =
     let K = c .before in
     let S = K .before .before .before in
     let a = S .args in
-    judged-skipped (a .f .now) (a .m) (a .bias) (a .i) (a .last) (S .pre) (sym (K .kind-at .ensures) ∙ c .if1 .taken)
+    judged-skipped (a .f .now) (a .m) (a .bias) (a .i) (a .last) (S .pre .0)
+    (entry-skipped (a .f .now) (a .m) (a .i) (S .pre .1) (sym (K .kind-at .ensures) ∙ c .if1 .taken))
 
 returns-2 : tie.Need-returns-2
 returns-2 c =
@@ -26,10 +29,11 @@ returns-2 c =
     let K = E .before in
     let S = K .before .before .before in
     let a = S .args in
-    let t = target-read (a .f .now) (a .m) (a .i) _ _ _ (K .kind-at .ensures) (Y .symbol-at .ensures) (F .find-target .ensures) in
+    let kept = entry-kept (a .f .now) (a .m) (a .i) (S .pre .1) (λ z. E .if1 .left (K .kind-at .ensures ∙ z)) in
+    let t = target-read (a .f .now) (a .m) (a .i) (S .pre .1) _ _ _ (K .kind-at .ensures) (Y .symbol-at .ensures) (F .find-target .ensures) in
     let b : barred (targetAt (a .f .now) (a .m) (a .i)) ≡ true = rw (← t, ← B .is-barred .ensures) (c .before .if2 .taken) in
     rw (c .faulty .ensures)
-    (judged-barred (a .f .now) (a .m) (a .bias) (a .i) (a .last) (S .pre) (λ z. E .if1 .left (K .kind-at .ensures ∙ z)) b)
+    (judged-barred (a .f .now) (a .m) (a .bias) (a .i) (a .last) (S .pre .0) kept b)
 
 returns-3 : tie.Need-returns-3
 returns-3 c =
@@ -42,18 +46,19 @@ returns-3 c =
     let K = E .before in
     let S = K .before .before .before in
     let a = S .args in
-    let t = target-read (a .f .now) (a .m) (a .i) _ _ _ (K .kind-at .ensures) (Y .symbol-at .ensures) (F .find-target .ensures) in
+    let kept = entry-kept (a .f .now) (a .m) (a .i) (S .pre .1) (λ z. E .if1 .left (K .kind-at .ensures ∙ z)) in
+    let t = target-read (a .f .now) (a .m) (a .i) (S .pre .1) _ _ _ (K .kind-at .ensures) (Y .symbol-at .ensures) (F .find-target .ensures) in
     let b : barred (targetAt (a .f .now) (a .m) (a .i)) ≡ false = rw (← t, ← B .is-barred .ensures) (L .if2 .left) in
     rw (c .faulty2 .ensures)
-    (judged-misfit (a .f .now) (a .m) (a .bias) (a .i) (a .last) (S .pre) (λ z. E .if1 .left (K .kind-at .ensures ∙ z)) b
-    (rw (← P .place-at .ensures) (fits-odd (a .f .now) (a .m) (P .place-at .result) (c .before .if3 .taken))))
+    (judged-misfit (a .f .now) (a .m) (a .bias) (a .i) (a .last) (S .pre .0) kept b
+    (rw (entry-place (a .f .now) (a .m) (a .i) (S .pre .1), ← P .place-at .ensures) (fits-odd (a .f .now) (a .m) (P .place-at .result) (c .before .if3 .taken))))
 
 hold-writable-requires : tie.Need-hold-writable-requires
 hold-writable-requires c κs =
     let B = c .before .before .before in
     let K = B .before .before .before .before .before in
     let S = K .before .before .before in
-    (omega arith, S .pre)
+    (omega arith, S .pre .0)
 
 returns-4 : tie.Need-returns-4
 returns-4 c =
@@ -68,12 +73,13 @@ returns-4 c =
     let K = E .before in
     let S = K .before .before .before in
     let a = S .args in
-    let t = target-read (a .f .now) (a .m) (a .i) _ _ _ (K .kind-at .ensures) (Y .symbol-at .ensures) (F .find-target .ensures) in
+    let kept = entry-kept (a .f .now) (a .m) (a .i) (S .pre .1) (λ z. E .if1 .left (K .kind-at .ensures ∙ z)) in
+    let t = target-read (a .f .now) (a .m) (a .i) (S .pre .1) _ _ _ (K .kind-at .ensures) (Y .symbol-at .ensures) (F .find-target .ensures) in
     let b : barred (targetAt (a .f .now) (a .m) (a .i)) ≡ false = rw (← t, ← B .is-barred .ensures) (L .if2 .left) in
     let out = O .hold-writable .ensures .none (c .before .if4 .taken) in
     rw (c .faulty3 .ensures)
-    (judged-misfit (a .f .now) (a .m) (a .bias) (a .i) (a .last) (S .pre) (λ z. E .if1 .left (K .kind-at .ensures ∙ z)) b
-    (rw (← P .place-at .ensures) (fits-held (a .f .now) (a .m) (P .place-at .result) false (G .if3 .left) out)))
+    (judged-misfit (a .f .now) (a .m) (a .bias) (a .i) (a .last) (S .pre .0) kept b
+    (rw (entry-place (a .f .now) (a .m) (a .i) (S .pre .1), ← P .place-at .ensures) (fits-held (a .f .now) (a .m) (P .place-at .result) false (G .if3 .left) out)))
 
 returns-5 : tie.Need-returns-5
 returns-5 c =
@@ -90,18 +96,19 @@ returns-5 c =
     let K = E .before in
     let S = K .before .before .before in
     let a = S .args in
-    let t = target-read (a .f .now) (a .m) (a .i) _ _ _ (K .kind-at .ensures) (Y .symbol-at .ensures) (F .find-target .ensures) in
+    let kept = entry-kept (a .f .now) (a .m) (a .i) (S .pre .1) (λ z. E .if1 .left (K .kind-at .ensures ∙ z)) in
+    let t = target-read (a .f .now) (a .m) (a .i) (S .pre .1) _ _ _ (K .kind-at .ensures) (Y .symbol-at .ensures) (F .find-target .ensures) in
     let b : barred (targetAt (a .f .now) (a .m) (a .i)) ≡ false = rw (← t, ← B .is-barred .ensures) (L .if2 .left) in
     let full : 0 < O .hold-writable .result .size = omega arith in
     let held = O .hold-writable .ensures .some full in
-    rw (P .place-at .ensures)
-    (judged-good (a .f .now) (a .m) (a .bias) (a .i) (O .hold-writable .result) (O .hold-writable .ensures .sound) (c .is-outside .result)
-    (λ z. E .if1 .left (K .kind-at .ensures ∙ z)) b
-    (rw (← P .place-at .ensures) (fits-held (a .f .now) (a .m) (P .place-at .result) true (G .if3 .left) held))
-    (c .is-outside .ensures ∙ rw (t, A .addend-at .ensures)))
+    judged-good (a .f .now) (a .m) (a .bias) (a .i) (O .hold-writable .result) (O .hold-writable .ensures .sound) kept
+    (P .place-at .result) (c .is-outside .result) b
+    (entry-place (a .f .now) (a .m) (a .i) (S .pre .1) ∙ sym (P .place-at .ensures))
+    (fits-held (a .f .now) (a .m) (P .place-at .result) true (G .if3 .left) held)
+    (c .is-outside .ensures ∙ rw (t, A .addend-at .ensures, ← entry-addend (a .f .now) (a .m) (a .i) (S .pre .1)))
 
-pub judge-spec : {M : Type 1} → statement M
-judge-spec =
+pub judge-entry-spec : {M : Type 1} → statement M
+judge-entry-spec =
     tie.close
     (tie.spec (search needs) returns (search needs) (search needs) (search needs) (search needs) returns-2 (search needs) (search needs) returns-3
     hold-writable-requires (search needs) returns-4 (search needs) (search needs) returns-5)
