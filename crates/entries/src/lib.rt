@@ -18,6 +18,8 @@ use rules::DT_RELA;
 use rules::DT_RELAENT;
 use rules::DT_RELASZ;
 use rules::DT_RELR;
+use rules::DT_RELRENT;
+use rules::DT_RELRSZ;
 use rules::DT_SYMENT;
 use rules::DT_SYMTAB;
 use rules::Dynamic;
@@ -25,11 +27,11 @@ use rules::Entry;
 use rules::Known;
 use rules::Refusal;
 
-const ROWS: usize = 13;
+const ROWS: usize = 15;
 
 // The tags that are known, with their groups and the values that are allowed. Rows of one group are partners; a group goes by its
 // first tag.
-const KNOWN: [Known; 13] = [
+const KNOWN: [Known; 15] = [
     Known {
         tag: DT_SYMTAB,
         group: DT_SYMTAB,
@@ -68,7 +70,17 @@ const KNOWN: [Known; 13] = [
     Known {
         tag: DT_RELR,
         group: DT_RELR,
-        allowed: Allowed::Never,
+        allowed: Allowed::Any,
+    },
+    Known {
+        tag: DT_RELRSZ,
+        group: DT_RELR,
+        allowed: Allowed::Multiple8,
+    },
+    Known {
+        tag: DT_RELRENT,
+        group: DT_RELR,
+        allowed: Allowed::Exactly8,
     },
     Known {
         tag: DT_MEMTAG_MODE,
@@ -98,7 +110,7 @@ const KNOWN: [Known; 13] = [
 ];
 
 fn row_at(r: usize) -> Known
-    requires { ⌜ r < 13 ⌝ }
+    requires { ⌜ r < 15 ⌝ }
     ensures { λ k. ⌜ k ≡ rowAt knownTags r ⌝ }
 {
     KNOWN[r]
@@ -111,6 +123,8 @@ fn is_allowed(a: Allowed, v: u64) -> bool
         Allowed::Any => true,
         Allowed::Exactly24 => v == 24,
         Allowed::Multiple24 => v % 24 == 0,
+        Allowed::Exactly8 => v == 8,
+        Allowed::Multiple8 => v % 8 == 0,
         Allowed::Flag => v < 2,
         Allowed::Never => false,
     }
@@ -181,7 +195,7 @@ fn has_tag(f: &[u8], d: Dynamic, tag: u64) -> bool
 
 // A row's tag is there and its group's first is not, or the other way round.
 fn is_partnerless(f: &[u8], d: Dynamic, r: usize) -> bool
-    requires { ⌜ r < 13 ⌝ }
+    requires { ⌜ r < 15 ⌝ }
     ensures { λ b. ⌜ b ≡ partnerless knownTags (now (f .entry)) d r ⌝ }
 {
     let k = row_at(r);
@@ -212,7 +226,7 @@ fn check_each(f: &[u8], d: Dynamic) -> Checked
 
 // Check 6: a partner is missing.
 fn lacks_partner(f: &[u8], d: Dynamic) -> bool
-    ensures { λ r. ⌜ r ≡ someBelow (partnerless knownTags (now (f .entry)) d) 13 ⌝ }
+    ensures { λ r. ⌜ r ≡ someBelow (partnerless knownTags (now (f .entry)) d) 15 ⌝ }
 {
     for r in 0..ROWS {
         if is_partnerless(f, d, r) {

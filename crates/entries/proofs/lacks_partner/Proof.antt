@@ -11,17 +11,17 @@ use Rattle.entries.proofs.lacks_partner.Statement.{statement}
 use Rattle.entries.proofs.lacks_partner.Tie as tie
 
 abbrev Inv-loop : tie.InvT-loop
-Inv-loop f d r₀ r = (r ≤ 13) × (first (partnerless knownTags f d) 0 13 ≡ first (partnerless knownTags f d) r (13 - r))
+Inv-loop f d r₀ r = (r ≤ 15) × (first (partnerless knownTags f d) 0 15 ≡ first (partnerless knownTags f d) r (15 - r))
 
 abbrev μ-loop : tie.MeasureT-loop
-μ-loop f d r₀ r = 13 - r
+μ-loop f d r₀ r = 15 - r
 
 returns : tie.Need-returns Inv-loop μ-loop
 returns c =
     let l = c .before .before .before .loop in
     let a = c .before .before .before .before .before .args in
     let t = partnerless knownTags (a .f .now) (a .d) in
-    sym (some-hit t 13 (l .r) (omega arith) (l .inv .1 ∙ first-hit t (l .r) 13 (omega arith) (rw (← c .before .is-partnerless .ensures)
+    sym (some-hit t 15 (l .r) (omega arith) (l .inv .1 ∙ first-hit t (l .r) 15 (omega arith) (rw (← c .before .is-partnerless .ensures)
     (c .if1 .taken))))
 
 loop-again : tie.Need-loop-again Inv-loop μ-loop
@@ -29,14 +29,14 @@ loop-again c =
     let l = c .before .before .before .loop in
     let a = c .before .before .before .before .before .args in
     let t = partnerless knownTags (a .f .now) (a .d) in
-    (omega arith, l .inv .1 ∙ first-step t (l .r) 13 (omega arith) (rw (← c .before .is-partnerless .ensures) (c .if1 .left)))
+    (omega arith, l .inv .1 ∙ first-step t (l .r) 15 (omega arith) (rw (← c .before .is-partnerless .ensures) (c .if1 .left)))
 
 returns-2 : tie.Need-returns-2 Inv-loop μ-loop
 returns-2 c =
     let l = c .before .loop in
     let a = c .before .before .before .args in
     let t = partnerless knownTags (a .f .now) (a .d) in
-    sym (some-none t 13 (l .inv .1 ∙ first-none t (l .r) 13 (omega arith) (omega arith)))
+    sym (some-none t 15 (l .inv .1 ∙ first-none t (l .r) 15 (omega arith) (omega arith)))
 
 pub lacks-partner-spec : {M : Type 1} → statement M
 lacks-partner-spec =
