@@ -22,7 +22,7 @@ use rules::RelocationsAnswer;
 const RELA_BYTES: u64 = 24;
 
 // The value of a tag's entry, 0 where there is none.
-fn value_of(f: &[u8], d: Dynamic, tag: u64) -> u64
+pub fn value_of(f: &[u8], d: Dynamic, tag: u64) -> u64
     ensures { λ r. ⌜ r ≡ orZero (entryOf (now (f .entry)) d tag) ⌝ }
 {
     let entry = entries::entry_of(f, d, tag);
@@ -33,7 +33,7 @@ fn value_of(f: &[u8], d: Dynamic, tag: u64) -> u64
 }
 
 // Where a table is backed; one of 0 bytes is accepted at any address.
-fn table_backing(f: &[u8], h: Headers, address: u64, bytes: u64) -> Backing
+pub fn table_backing(f: &[u8], h: Headers, address: u64, bytes: u64) -> Backing
     ensures { λ r. ⌜ r ≡ tableBacking (now (f .entry)) h address bytes ⌝ }
 {
     if bytes == 0 {
