@@ -10,6 +10,7 @@ use Rattle.rules.specs.Answers.{countOf}
 use Rattle.rules.specs.declared.Headers.{Headers}
 use Rattle.rules.specs.declared.Dynamic.{Dynamic}
 use Rattle.rules.specs.declared.Relocations.{Relocations}
+use Rattle.rules.specs.declared.Packed.{Packed}
 use Rattle.rules.specs.declared.Descriptors.{Descriptors}
 use Rattle.rules.specs.declared.Global.{Global}
 use Rattle.laws.proofs.Stages.{moduleWith}
@@ -20,7 +21,7 @@ count-then : {B : Type 0} (o : Outcome (List Global)) (k : ℕ → Outcome B) �
 count-then (good gs) k = refl
 count-then (bad r) k = refl
 
-pub globals-count : (f : List ℕ) (h : Headers) (d : Dynamic) (r : Relocations) (t : Descriptors)
-    → globalsStage f h d r t ≡ andThen (countOf (globalsOf f h t)) (λ n. good (moduleWith f h d r t n))
+pub globals-count : (f : List ℕ) (h : Headers) (d : Dynamic) (r : Relocations) (k : Packed) (t : Descriptors)
+    → globalsStage f h d r k t ≡ andThen (countOf (globalsOf f h t)) (λ n. good (moduleWith f h d r k t n))
 unfolding globalsStage
-globals-count f h d r t = count-then (globalsOf f h t) (λ n. good (moduleWith f h d r t n))
+globals-count f h d r k t = count-then (globalsOf f h t) (λ n. good (moduleWith f h d r k t n))

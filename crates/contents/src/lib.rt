@@ -1,7 +1,7 @@
-// Checks 7 to 9: the tables that the dynamic table names, and the module with them.
+// Checks 7, 15, 8 and 9: the tables that the dynamic table names, and the module with them.
 ghost use mathlib.Core.Path.{_≡_};
 ghost use Rattle.rules.specs.Answers.{ofModule};
-ghost use Rattle.contents.specs.Stages.{globalsStage, tablesStage};
+ghost use Rattle.contents.specs.Stages.{globalsStage, packedStage, tablesStage};
 use rules::DT_SYMTAB;
 use rules::Descriptors;
 use rules::DescriptorsAnswer;
@@ -11,6 +11,8 @@ use rules::Headers;
 use rules::Module;
 use rules::ModuleAnswer;
 use rules::NEVER;
+use rules::Packed;
+use rules::PackedAnswer;
 use rules::Relocations;
 use rules::RelocationsAnswer;
 
@@ -20,9 +22,10 @@ fn read_globals(
     h: Headers,
     d: Dynamic,
     relocations: Relocations,
+    packed: Packed,
     t: Descriptors,
 ) -> ModuleAnswer
-    ensures { λ v. ⌜ ofModule v ≡ globalsStage (now (f .entry)) h d relocations t ⌝ }
+    ensures { λ v. ⌜ ofModule v ≡ globalsStage (now (f .entry)) h d relocations packed t ⌝ }
 {
     let counted = globals::count_globals(f, h, t);
     let GlobalsAnswer::Found(count) = counted else {
@@ -37,12 +40,30 @@ fn read_globals(
         dynamic: d,
         symbols: symbols,
         relocations: relocations,
+        packed: packed,
         descriptors: t,
         globals: count,
     })
 }
 
-// Checks 7 to 9: the tables.
+// Check 15: the packed table. Then the globals.
+fn read_packed(
+    f: &[u8],
+    h: Headers,
+    d: Dynamic,
+    relocations: Relocations,
+    t: Descriptors,
+) -> ModuleAnswer
+    ensures { λ v. ⌜ ofModule v ≡ packedStage (now (f .entry)) h d relocations t ⌝ }
+{
+    let found = relr::find_packed(f, h, d, relocations);
+    match found {
+        PackedAnswer::Found(packed) => read_globals(f, h, d, relocations, packed, t),
+        PackedAnswer::Refused(r) => ModuleAnswer::Refused(r),
+    }
+}
+
+// Check 7: the relocation table, then the descriptor table. Then the packed table.
 pub fn read_tables(f: &[u8], h: Headers, d: Dynamic) -> ModuleAnswer
     ensures { λ v. ⌜ ofModule v ≡ tablesStage (now (f .entry)) h d ⌝ }
 {
@@ -60,5 +81,5 @@ pub fn read_tables(f: &[u8], h: Headers, d: Dynamic) -> ModuleAnswer
         };
         return ModuleAnswer::Refused(r);
     };
-    read_globals(f, h, d, relocations, descriptors)
+    read_packed(f, h, d, relocations, descriptors)
 }

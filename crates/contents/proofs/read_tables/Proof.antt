@@ -1,4 +1,4 @@
--- Check 7: the relocations, then the descriptors; a refusal is passed up.
+-- Check 7: the relocations, then the descriptors, then the packed table; a refusal is passed up.
 -- Assumes nothing.
 use Rattle.contents.specs.Stages.{tablesStage}
 use borrow.Author.Needs.{needs}
@@ -34,7 +34,7 @@ returns-5 c =
       found .found .given .1,
       ← described .before .before .find-descriptors .ensures,
       described .described .given .1,
-    ) (c .read-globals .ensures)
+    ) (c .read-packed .ensures)
 
 pub read-tables-spec : {M : Type 1} → statement M
 read-tables-spec =
