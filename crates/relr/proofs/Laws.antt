@@ -10,11 +10,11 @@ use native.Mathlib.Omega.{arith}
 use lib.ListN.{length, length-append, length-map}
 use lib.Dec.{ltb, eqb}
 use lib.Count.{ones, ones-step, ones-le}
-use borrow.Author.Tests.{lt-ltb, le-ltb, eqb-true, eqb-false}
+use borrow.Author.Tests.{lt-ltb, le-ltb, eq-eqb, ne-eqb, eqb-true, eqb-false}
 use Rattle.rules.specs.Outcome.{good, bad, refuse, andThen}
 use Rattle.rules.specs.Checks.{Check}
 use Rattle.rules.specs.Limits.{entryLimit}
-use Rattle.rules.specs.First.{first, someBelow}
+use Rattle.rules.specs.First.{first}
 use Rattle.rules.specs.Packed.{isPlace, placesIn, placesOf, runAfter, packedWord, packedFrom, packedBefore}
 use Rattle.rules.specs.Packed.{isPlaceAt, badWord, wordsCheck, packedAt}
 use Rattle.rules.proofs.BoolLaws.{and-false}
@@ -87,12 +87,12 @@ unfolding first packedFrom
 no-words f at entries = refl
 
 -- a bitmap first is bad
-pub odd-first : (f : List ℕ) (at words entries : ℕ) → 0 < words → isPlaceAt f at 0 ≡ false → countIn f at words entries ≡ refuse 15 0
-unfolding badWord
-odd-first f at words entries l e =
+pub odd-first : (f : List ℕ) (at words entries w : ℕ) → 0 < words → w ≡ packedWord f at 0 → (w % 2 ≡ 0 → ⊥)
+    → countIn f at words entries ≡ refuse 15 0
+unfolding badWord isPlaceAt
+odd-first f at words entries w l e o =
     let t = badWord f at entries in
-    let none : someBelow (isPlaceAt f at) 0 ≡ false = le-ltb (first (isPlaceAt f at) 0 0) 0 (omega arith) in
-    let b : t 0 ≡ true = rw (e, none) in
+    let b : t 0 ≡ true = rw (← e, ne-eqb (w % 2) 0 o, le-ltb (first (isPlaceAt f at) 0 0) 0 (omega arith)) in
     let hit : first t 0 words ≡ 0 = rw sub-zero at (first-hit t 0 words l b) in
     rw (faultless-hit 15 t words 0 hit l)
 
@@ -111,9 +111,11 @@ pub record Counting (f : List ℕ) (at words entries k total : ℕ) : Type 0 whe
   pub small : total < 2 ^ 32
   pub onward : first (badWord f at entries) 0 words ≡ first (badWord f at entries) k (words - k)
 
-pub counting-none : (f : List ℕ) (at words entries : ℕ) → entries < 2 ^ 32 → isPlaceAt f at 0 ≡ true → Counting f at words entries 0 entries
-unfolding packedFrom
-counting-none f at words entries l e = record { even = e; seen = omega arith; sum = omega arith; small = l; onward = rw sub-zero }
+pub counting-none : (f : List ℕ) (at words entries w : ℕ) → entries < 2 ^ 32 → w ≡ packedWord f at 0 → w % 2 ≡ 0
+    → Counting f at words entries 0 entries
+unfolding packedFrom isPlaceAt
+counting-none f at words entries w l e o =
+    record { even = rw (← e) (eq-eqb (w % 2) 0 o); seen = omega arith; sum = omega arith; small = l; onward = rw sub-zero }
 
 module _ (f : List ℕ) (at words entries k total : ℕ) (c : Counting f at words entries k total) where
   -- the next word, and how many places it names

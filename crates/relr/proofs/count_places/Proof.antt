@@ -4,8 +4,6 @@ use Prim.Native.Nat.{_-_}
 use mathlib.Core.Path.{sym}
 use native.Mathlib.Omega.{arith}
 use borrow.Author.Needs.{needs}
-use borrow.Author.Tests.{eq-eqb, ne-eqb}
-use Rattle.rules.specs.Packed.{isPlaceAt}
 use Rattle.relr.proofs.Laws.{Counting, counting-none, counting-next, counting-over, counting-all, no-words, odd-first}
 use Rattle.relr.proofs.count_places.Statement.{statement}
 use Rattle.relr.proofs.count_places.Tie as tie
@@ -20,18 +18,16 @@ returns : tie.Need-returns Inv-loop μ-loop
 returns c = let a = c .before .before .args in rw (c .if1 .taken) (sym (no-words (a .f .now) (a .at) (a .entries)))
 
 returns-2 : tie.Need-returns-2 Inv-loop μ-loop
-unfolding isPlaceAt
 returns-2 c =
     let read = c .before in
     let a = read .before .before .before .args in
-    sym (odd-first (a .f .now) (a .at) (a .words) (a .entries) (omega arith) (rw (← read .word-at .ensures) (ne-eqb _ _ (c .if2 .taken))))
+    sym (odd-first (a .f .now) (a .at) (a .words) (a .entries) (read .word-at .result) (omega arith) (read .word-at .ensures) (c .if2 .taken))
 
 loop-holds : tie.Need-loop-holds Inv-loop μ-loop
-unfolding isPlaceAt
 loop-holds c =
     let read = c .before in
     let a = read .before .before .before .args in
-    counting-none (a .f .now) (a .at) (a .words) (a .entries) (omega arith) (rw (← read .word-at .ensures) (eq-eqb _ _ (c .if2 .left)))
+    counting-none (a .f .now) (a .at) (a .words) (a .entries) (read .word-at .result) (omega arith) (read .word-at .ensures) (c .if2 .left)
 
 returns-3 : tie.Need-returns-3 Inv-loop μ-loop
 returns-3 c =
