@@ -103,7 +103,7 @@ unfolding badWord
 bad-over f at entries zero e = rw e
 bad-over f at entries (suc k) e = rw (at-some (isPlaceAt f at) (suc k) 0 (omega arith) e, and-false)
 
--- the words below k are good, and name so many places that they and the entries are the total
+-- the first word is a place; the words below k are good, and name so many places that they and the entries are the total
 pub record Counting (f : List ℕ) (at words entries k total : ℕ) : Type 0 where
   pub even : isPlaceAt f at 0 ≡ true
   pub seen : k ≤ words
