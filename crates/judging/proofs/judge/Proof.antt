@@ -14,4 +14,4 @@ returns-2 c =
     c .judge-packed .ensures (a .i) l (S .pre .2 .place l)
 
 pub judge-spec : {M : Type 1} → statement M
-judge-spec = tie.close (tie.spec (λ c κs. search needs) (search needs) (λ c κs. search needs) returns-2)
+judge-spec = tie.close (tie.spec (λ c κs. search needs) (λ c. search needs) (λ c κs. search needs) returns-2)
