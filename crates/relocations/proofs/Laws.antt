@@ -11,97 +11,33 @@ use native.Mathlib.Numerals.{add-one}
 use lib.ListN.{length, getD, set, replicate, length-set, length-replicate}
 use lib.Seq.{getD-set-same, getD-set-other}
 use lib.Dec.{eqb}
-use lib.IntN.{ℤ}
 use borrow.Author.Tests.{eq-eqb, ne-eqb, eqb-true, lt-ltb, le-ltb}
 use Rattle.rules.specs.Outcome.{good, bad, refuse}
 use Rattle.rules.specs.Limits.{entryLimit}
 use Rattle.rules.specs.First.{first, someBelow, countBelow}
-use Rattle.rules.specs.Segments.{inMemory}
-use Rattle.rules.specs.Addresses.{outOfRange, natural, addressAt, badAddress}
-use Rattle.rules.specs.Answers.{inRange}
-use Rattle.rules.specs.Relocations.{placeAt, kindAt, symbolAt, live, items, target, targetAt, barred}
+use Rattle.rules.specs.Addresses.{badAddress}
+use Rattle.rules.specs.Relocations.{placeAt, live, items, positionAt, targetAt, barred}
 use Rattle.rules.specs.Relocations.{placeFits, hasPlace, taken, goodPlace, badRelocation, firstBad, relocationsCheck, wordsOf}
-use Rattle.rules.specs.declared.Address.the-variants.{At, Outside}
 use Rattle.rules.specs.declared.Module.{Module}
-use Rattle.rules.specs.declared.Target.{Target}
 use Rattle.rules.specs.declared.Walked.{Walked}
 use Rattle.rules.specs.declared.Refusal.{Refusal}
-use Rattle.rules.proofs.FirstLaws.{first-step, first-hit, first-none, first-same, first-next, count-le}
-use Rattle.rules.proofs.OutcomeLaws.{false-true, never, and-left, andThen-good}
+use Rattle.rules.proofs.FirstLaws.{first-step, first-hit, first-none, first-le, first-same, first-next, count-le}
+use Rattle.rules.proofs.OutcomeLaws.{false-true, never, and-left, and-right, andThen-good}
 use Rattle.laws.proofs.Checks.{andThen-bad}
 use Rattle.segments.specs.Spans.{Sound}
 use Rattle.segments.specs.declared.Span.{Span}
 use Rattle.segments.proofs.SpanLaws.{sound-none}
-use Rattle.relocations.specs.declared.Judged.{Judged}
-use Rattle.relocations.specs.Walk.{itemFault, skippedKey, keyAt, hasKey, searchFrom, Judges, walkedOf, walkOf}
+use Rattle.laws.proofs.Items.{packed-live}
+use Rattle.places.specs.Ahead.{placeLimit, Reached, Here, Comes}
+use Rattle.places.specs.declared.Run.{Run}
+use Rattle.places.proofs.Laws.{standingAt}
+use Rattle.places.proofs.ItemLaws.{reached-start}
+use Rattle.judging.specs.declared.Judged.{Judged}
+use Rattle.judging.specs.Judges.{itemFault, skippedKey, keyAt, Judges}
+use Rattle.judging.proofs.Laws.{place-low}
+use Rattle.relocations.specs.Walk.{Ready, hasKey, searchFrom, markOf, markAfter, walkedOf, walkOf}
 
 -- ---- one item
-
--- an address out of range, as the answer tells it
-pub outside-out : (z : ℤ) → inRange z ≡ Outside → outOfRange z ≡ true
-outside-out z e = go (outOfRange z) e
-  where
-    go : (b : Bool) → cond b Outside (At (natural z)) ≡ Outside → b ≡ true
-    go true q = refl
-    go false q = search never
-
-pub at-in : (z : ℤ) (a : ℕ) → inRange z ≡ At a → outOfRange z ≡ false
-at-in z a e = go (outOfRange z) e
-  where
-    go : (b : Bool) → cond b Outside (At (natural z)) ≡ At a → b ≡ false
-    go true q = search never
-    go false q = refl
-
--- the target that was looked up, by the fields that were read
-pub target-read : (f : List ℕ) (m : Module) (i kind symbol : ℕ) (t : Target) → kind ≡ kindAt f m i → symbol ≡ symbolAt f m i
-    → t ≡ target f (m .headers) (m .symbols) kind symbol → t ≡ targetAt f m i
-target-read f m i kind symbol t a b e = e ∙ rw (a, b)
-
-module _ (f : List ℕ) (m : Module) (bias i : ℕ) (last : Span) (sound : Sound f (m .headers) true last) where
-  pub judged-skipped : kindAt f m i ≡ 0 → Judges f m bias i (record { number = 0; key = skippedKey; words = 0; outside = false; span = last })
-  unfolding itemFault keyAt badAddress
-  judged-skipped e =
-      let z = eq-eqb (kindAt f m i) 0 e in
-      record { fault = rw z; key = λ _. rw z; words = λ _. rw z; outside = λ _. rw z; sound = sound }
-
-  -- a fault and what stands beside it
-  faulty-judged : (number : ℕ) → (number ≡ 0 → ⊥) → number ≡ itemFault f m i
-      → Judges f m bias i (record { number = number; key = skippedKey; words = 0; outside = true; span = last })
-  faulty-judged number some e = record {
-    fault = e;
-    key = λ z. absurd (some z);
-    words = λ z. absurd (some z);
-    outside = λ z. absurd (some z);
-    sound = sound;
-  }
-
-  pub judged-barred : (kindAt f m i ≡ 0 → ⊥) → barred (targetAt f m i) ≡ true
-      → Judges f m bias i (record { number = 10; key = skippedKey; words = 0; outside = true; span = last })
-  unfolding itemFault
-  judged-barred k b = let z = ne-eqb (kindAt f m i) 0 k in faulty-judged 10 (λ q. omega arith) (rw (z, b))
-
-  pub judged-misfit : (kindAt f m i ≡ 0 → ⊥) → barred (targetAt f m i) ≡ false → placeFits f (m .headers) (placeAt f m i) ≡ false
-      → Judges f m bias i (record { number = 11; key = skippedKey; words = 0; outside = true; span = last })
-  unfolding itemFault
-  judged-misfit k b p = let z = ne-eqb (kindAt f m i) 0 k in faulty-judged 11 (λ q. omega arith) (rw (z, b, p))
-
-  pub judged-good : (outside : Bool) → (kindAt f m i ≡ 0 → ⊥) → barred (targetAt f m i) ≡ false
-      → placeFits f (m .headers) (placeAt f m i) ≡ true → outside ≡ outOfRange (addressAt f m bias i)
-      → Judges f m bias i (record { number = 0; key = placeAt f m i; words = 1; outside = outside; span = last })
-  unfolding itemFault keyAt badAddress
-  judged-good outside k b p o =
-      let z = ne-eqb (kindAt f m i) 0 k in
-      record { fault = rw (z, b, p); key = λ _. rw z; words = λ _. rw z; outside = λ _. rw z o; sound = sound }
-
--- whether a place fits, by its two tests
-pub fits-odd : (f : List ℕ) (m : Module) (p : ℕ) → (p % 8 ≡ 0 → ⊥) → placeFits f (m .headers) p ≡ false
-unfolding placeFits
-fits-odd f m p h = rw (ne-eqb (p % 8) 0 h)
-
-pub fits-held : (f : List ℕ) (m : Module) (p : ℕ) (b : Bool) → p % 8 ≡ 0 → inMemory f (m .headers) true p 8 ≡ b
-    → placeFits f (m .headers) p ≡ b
-unfolding placeFits
-fits-held f m p b h e = rw (eq-eqb (p % 8) 0 h) e
 
 -- an item with a fault is bad, whatever places come before it
 fault-tests : (l b p t : Bool) (k : ℕ) → cond l (cond b 10 (cond p 0 11)) 0 ≡ k → (k ≡ 0 → ⊥)
@@ -206,18 +142,43 @@ module _ (f : List ℕ) (m : Module) (i key : ℕ) (k : key ≡ keyAt f m i)
 
 -- ---- the walk
 
+-- a first hit is marked by its position
+pub mark-none : (hit : ℕ → Bool) (position : ℕ → ℕ) → markOf hit position 0 ≡ 0
+unfolding markOf first
+mark-none hit position = refl
+
+pub mark-next : (hit : ℕ → Bool) (position : ℕ → ℕ) (i : ℕ)
+    → markOf hit position (i + 1) ≡ markAfter (markOf hit position i) (hit i) (position i)
+unfolding markOf markAfter
+mark-next hit position i =
+    rw (first-next hit i) (⊎-elim
+    (λ (q : first hit 0 i ≡ i). rw (q, eq-eqb i i refl) (here (hit i)))
+    (λ (q : first hit 0 i < i). rw (ne-eqb (first hit 0 i) i (λ z. omega arith)) (before (hit i) q))
+    (eq-or-lt-of-le (omega (arith, first-le hit i 0))))
+  where
+    here : (b : Bool) → cond (eqb (cond b i (i + 1)) (i + 1)) 0 (position (cond b i (i + 1)) + 1) ≡ cond b (position i + 1) 0
+    here true = rw (ne-eqb i (i + 1) (λ z. omega arith))
+    here false = rw (eq-eqb (i + 1) (i + 1) refl)
+
+    before : (b : Bool) → first hit 0 i < i
+        → cond (eqb (cond b (first hit 0 i) (first hit 0 i)) (i + 1)) 0 (position (cond b (first hit 0 i) (first hit 0 i)) + 1)
+        ≡ cond (eqb (position (first hit 0 i) + 1) 0) (cond b (position i + 1) 0) (position (first hit 0 i) + 1)
+    before true q = rw (ne-eqb (first hit 0 i) (i + 1) (λ z. omega arith), ne-eqb (position (first hit 0 i) + 1) 0 (λ z. omega arith))
+    before false q = rw (ne-eqb (first hit 0 i) (i + 1) (λ z. omega arith), ne-eqb (position (first hit 0 i) + 1) 0 (λ z. omega arith))
+
 -- what the walk has found of the items below i
-pub record Walking (f : List ℕ) (m : Module) (bias : ℕ) (keys : List ℕ) (words outside : ℕ) (span : Span) (i : ℕ) : Type 0 where
+pub record Walking (f : List ℕ) (m : Module) (bias : ℕ) (keys : List ℕ) (words outside : ℕ) (span : Span) (run : Run) (i : ℕ) : Type 0 where
   pub below : i ≤ items m
   pub lowest : first (badRelocation f m) 0 (items m) ≡ first (badRelocation f m) i (items m - i)
   pub wide : length keys ≡ entryLimit
   pub held : Held f m keys i
   pub counted : words ≡ countBelow (live f m) i
-  pub ranged : outside ≡ first (badAddress f m bias) 0 i
+  pub ranged : outside ≡ markOf (badAddress f m bias) (positionAt f m) i
   pub sound : Sound f (m .headers) true span
+  pub reached : Reached f m run (i - m .relocations .entries)
 
 pub walking-start : (f : List ℕ) (m : Module) (bias : ℕ) (span : Span) → span .size ≡ 0
-    → Walking f m bias (replicate entryLimit 0) 0 0 span 0
+    → Walking f m bias (replicate entryLimit 0) 0 0 span (standingAt 0 0 0 0) 0
 unfolding first countBelow
 walking-start f m bias span e = record {
   below = omega arith;
@@ -225,22 +186,25 @@ walking-start f m bias span e = record {
   wide = length-replicate {A = ℕ} entryLimit 0;
   held = λ k l. absurd (omega arith);
   counted = refl;
-  ranged = refl;
+  ranged = sym (mark-none (badAddress f m bias) (positionAt f m));
   sound = sound-none f (m .headers) true span e;
+  reached = let q : 0 - m .relocations .entries ≡ 0 = omega arith in rw q (reached-start f m);
 }
 
-module _ (f : List ℕ) (m : Module) (bias : ℕ) (keys : List ℕ) (words outside : ℕ) (span : Span) (i : ℕ)
-    (w : Walking f m bias keys words outside span i) (more : i < items m) (j : Judged) (judged : Judges f m bias i j) where
+module _ (f : List ℕ) (m : Module) (ready : Ready f m) (bias : ℕ) (keys : List ℕ) (words outside : ℕ) (span : Span) (run : Run) (i : ℕ)
+    (w : Walking f m bias keys words outside span run i) (more : i < items m) (j : Judged) (judged : Judges f m bias i j) where
   -- the answer, where an item is the first bad one
-  walk-hit : (number : ℕ) → badRelocation f m i ≡ true → number ≡ cond (barred (targetAt f m i)) 10 11 → walkOf f m bias ≡ refuse number i
+  walk-hit : (number position : ℕ) → badRelocation f m i ≡ true → number ≡ cond (barred (targetAt f m i)) 10 11 → position ≡ positionAt f m i
+      → walkOf f m bias ≡ refuse number position
   unfolding walkOf relocationsCheck firstBad
-  walk-hit number b n =
+  walk-hit number position b n q =
       let e = w .lowest ∙ first-hit (badRelocation f m) i (items m) more b in
-      rw (e, ne-eqb i (items m) (λ q. omega arith), n)
+      rw (e, ne-eqb i (items m) (λ q. omega arith), n, q)
 
   -- an item with a fault of its own
-  pub walking-fault : (j .number ≡ 0 → ⊥) → walkOf f m bias ≡ refuse (j .number) i
-  walking-fault some = let b = fault-bad f m i (j .number) (judged .fault) some in walk-hit (j .number) (b .0) (b .1)
+  pub walking-fault : (position : ℕ) → position ≡ positionAt f m i → (j .number ≡ 0 → ⊥) → walkOf f m bias ≡ refuse (j .number) position
+  walking-fault position q some =
+      let b = fault-bad f m i (j .number) (judged .fault) some in walk-hit (j .number) position (b .0) (b .1) q
 
   module _ (none : j .number ≡ 0) where
     -- one step of the search: an earlier item of another key
@@ -252,20 +216,31 @@ module _ (f : List ℕ) (m : Module) (bias : ℕ) (keys : List ℕ) (words outsi
     }
 
     -- an earlier item of the same key: its place is taken
-    pub walking-repeat : (k : ℕ) → Searching f m (j .key) i k → k < i → getD keys k 0 ≡ j .key → walkOf f m bias ≡ refuse 11 i
+    pub walking-repeat : (position k : ℕ) → position ≡ positionAt f m i → Searching f m (j .key) i k → k < i → getD keys k 0 ≡ j .key
+        → walkOf f m bias ≡ refuse 11 position
     unfolding hasKey
-    walking-repeat k s l e =
+    walking-repeat position k p s l e =
         let c = clear-bad f m i (j .number) (judged .fault) none in
         let at = s .left ∙ first-hit (hasKey f m (j .key)) k i l (eq-eqb _ _ (sym (w .held k l) ∙ e)) in
         let q = repeat-hit f m i (j .key) (judged .key none) (c .2) k at l in
-        walk-hit 11 (c .0 ∙ q .0) (rw (c .1 (q .1)))
+        walk-hit 11 position (c .0 ∙ q .0) (rw (c .1 (q .1))) p
+
+    -- a packed place that fits is low
+    low-place : (next : Run) → Comes f m i next → m .relocations .entries ≤ i → next .place ≤ placeLimit
+    unfolding placeFits
+    low-place next come l =
+        let c = clear-bad f m i (j .number) (judged .fault) none in
+        let fits = c .2 (packed-live f m i l) in
+        let low = place-low f (m .headers) (placeAt f m i) (ready .loads) (and-right (eqb (placeAt f m i % 8) 0) _ fits) in
+        let q = come .here .place l in
+        omega arith
 
     -- no earlier item of the same key: on to the next item
-    pub walking-next : (k : ℕ) → Searching f m (j .key) i k → i ≤ k → i < length keys → (after : ℕ)
-        → after ≡ cond (j .outside) outside (cond (eqb outside i) (i + 1) outside)
-        → Walking f m bias (set keys i (j .key)) (words + j .words) after (j .span) (i + 1)
+    pub walking-next : (k : ℕ) → Searching f m (j .key) i k → i ≤ k → i < length keys → (after position : ℕ) → position ≡ positionAt f m i
+        → after ≡ markAfter outside (j .outside) position → (next : Run) → Comes f m i next
+        → Walking f m bias (set keys i (j .key)) (words + j .words) after (j .span) next (i + 1)
     unfolding countBelow
-    walking-next k s l room after a =
+    walking-next k s l room after position p a next come =
         let c = clear-bad f m i (j .number) (judged .fault) none in
         let u = s .below in
         let at = s .left ∙ first-none (hasKey f m (j .key)) k i u l in
@@ -277,8 +252,9 @@ module _ (f : List ℕ) (m : Module) (bias : ℕ) (keys : List ℕ) (words outsi
           wide = length-set keys i (j .key) ∙ w .wide;
           held = held-more f m keys i (j .key) (w .held) room (judged .key none);
           counted = rw (add-one, ← w .counted, ← judged .words none);
-          ranged = a ∙ rw (first-next (badAddress f m bias) i, o, w .ranged);
+          ranged = a ∙ rw (mark-next (badAddress f m bias) (positionAt f m) i, o, w .ranged, p);
           sound = judged .sound;
+          reached = come .onward (low-place next come);
         }
 
     -- the count of words stays small
@@ -290,15 +266,16 @@ module _ (f : List ℕ) (m : Module) (bias : ℕ) (keys : List ℕ) (words outsi
         go false e = let l = count-le (live f m) i in let c = w .counted in omega arith
 
 -- the answer at the end
-pub walking-end : (f : List ℕ) (m : Module) (bias : ℕ) (keys : List ℕ) (words outside : ℕ) (span : Span) (i : ℕ)
-    → Walking f m bias keys words outside span i → items m ≤ i → walkOf f m bias ≡ good (record { words = words; outside = outside })
+pub walking-end : (f : List ℕ) (m : Module) (bias : ℕ) (keys : List ℕ) (words outside : ℕ) (span : Span) (run : Run) (i : ℕ)
+    → Walking f m bias keys words outside span run i → items m ≤ i → walkOf f m bias ≡ good (record { words = words; outside = outside })
 unfolding walkOf walkedOf relocationsCheck firstBad wordsOf
-walking-end f m bias keys words outside span i w l =
+walking-end f m bias keys words outside span run i w l =
     let u = w .below in
     let e = w .lowest ∙ first-none (badRelocation f m) i (items m) u l in
     let s : i ≡ items m = omega arith in
     let c : words ≡ countBelow (live f m) (items m) = w .counted ∙ ap (λ (k : ℕ). countBelow (live f m) k) s in
-    let o : outside ≡ first (badAddress f m bias) 0 (items m) = w .ranged ∙ ap (λ (k : ℕ). first (badAddress f m bias) 0 k) s in
+    let o : outside ≡ markOf (badAddress f m bias) (positionAt f m) (items m) =
+    w .ranged ∙ ap (λ (k : ℕ). markOf (badAddress f m bias) (positionAt f m) k) s in
     rw (e, eq-eqb (items m) (items m) refl, c, o)
 
 -- ---- for callers: what a walk that passes has found, and the refusal of one that does not
@@ -306,7 +283,7 @@ walking-end f m bias keys words outside span i w l =
 pub record Walks (f : List ℕ) (m : Module) (bias : ℕ) (w : Walked) : Type 0 where
   pub passes : relocationsCheck f m ≡ good tt
   pub words : w .words ≡ wordsOf f m
-  pub outside : w .outside ≡ first (badAddress f m bias) 0 (items m)
+  pub outside : w .outside ≡ markOf (badAddress f m bias) (positionAt f m) (items m)
 
 module _ (f : List ℕ) (m : Module) (bias : ℕ) where
   pub walk-found : (w : Walked) → walkOf f m bias ≡ good w → Walks f m bias w

@@ -1,30 +1,27 @@
--- The walk of checks 10 and 11: one item, the search for an earlier item of its place, and what the walk finds besides.
+-- The walk of checks 10 and 11: the search for an earlier item of the same place, and what the walk finds besides.
 -- Assumes nothing.
-use Prim.Native.Nat.{ℕ}
+use Prim.Native.Nat.{ℕ, _+_, _≤_}
 use mathlib.Core.Path.{_≡_}
-use mathlib.Core.Bool.{Bool, true, cond}
+use mathlib.Core.Bool.{Bool, cond}
 use mathlib.Core.List.{List}
+use lib.ListN.{length}
 use lib.Dec.{eqb}
 use Rattle.rules.specs.Outcome.{Outcome, good, andThen}
+use Rattle.rules.specs.Limits.{entryLimit}
 use Rattle.rules.specs.First.{first}
-use Rattle.rules.specs.Relocations.{placeAt, live, items, targetAt, barred, placeFits, relocationsCheck, wordsOf}
+use Rattle.rules.specs.Segments.{loadsCheck}
+use Rattle.rules.specs.Packed.{packedBefore}
+use Rattle.rules.specs.Relocations.{items, positionAt, relocationsCheck, wordsOf}
 use Rattle.rules.specs.Addresses.{badAddress}
 use Rattle.rules.specs.declared.Module.{Module}
 use Rattle.rules.specs.declared.Walked.{Walked}
-use Rattle.segments.specs.Spans.{Sound}
-use Rattle.relocations.specs.declared.Judged.{Judged}
+use Rattle.judging.specs.Judges.{skippedKey, keyAt}
 
--- an item by itself: 0 where it is skipped or nothing is wrong so far, else 10 or 11
-unfoldable pub itemFault : List ℕ → Module → ℕ → ℕ
-itemFault f m i =
-    cond (live f m i) (cond (barred (targetAt f m i)) 10 (cond (placeFits f (m .headers) (placeAt f m i)) 0 11)) 0
-
--- what is kept of an item for the search: its place, or 1 where it is skipped; a place that fits is a multiple of 8
-abbrev pub skippedKey : ℕ
-skippedKey = 1
-
-unfoldable pub keyAt : List ℕ → Module → ℕ → ℕ
-keyAt f m i = cond (live f m i) (placeAt f m i) skippedKey
+-- what the reader has made sure of
+pub record Ready (f : List ℕ) (m : Module) : Type 0 where
+  pub loads : loadsCheck f (m .headers) ≡ good tt
+  pub counted : m .packed .places ≡ length (packedBefore f (m .packed .at) (m .packed .words))
+  pub few : items m ≤ entryLimit
 
 -- an item has a key
 unfoldable pub hasKey : List ℕ → Module → ℕ → ℕ → Bool
@@ -34,20 +31,18 @@ hasKey f m key i = eqb (keyAt f m i) key
 unfoldable pub searchFrom : ℕ → ℕ → ℕ
 searchFrom key i = cond (eqb key skippedKey) i 0
 
--- what is found of one item: its fault; where it has none its key, how many words it relocates, and whether its address is out
--- of range; and the PT_LOAD found last
-pub record Judges (f : List ℕ) (m : Module) (bias i : ℕ) (j : Judged) : Type 0 where
-  pub fault : j .number ≡ itemFault f m i
-  pub key : j .number ≡ 0 → j .key ≡ keyAt f m i
-  pub words : j .number ≡ 0 → j .words ≡ cond (live f m i) 1 0
-  pub outside : j .number ≡ 0 → j .outside ≡ badAddress f m bias i
-  pub sound : Sound f (m .headers) true (j .span)
+-- a first hit is marked by one more than its position, none by 0: of n indices, and after one more
+unfoldable pub markOf : (ℕ → Bool) → (ℕ → ℕ) → ℕ → ℕ
+markOf hit position n = cond (eqb (first hit 0 n) n) 0 (position (first hit 0 n) + 1)
 
--- the words relocated, and the first item that check 13 refuses
+unfoldable pub markAfter : ℕ → Bool → ℕ → ℕ
+markAfter mark hit position = cond (eqb mark 0) (cond hit (position + 1) 0) mark
+
+-- the words relocated, and the first address that check 13 refuses
 unfoldable pub walkedOf : List ℕ → Module → ℕ → Walked
 walkedOf f m bias = record {
   words = wordsOf f m;
-  outside = first (badAddress f m bias) 0 (items m);
+  outside = markOf (badAddress f m bias) (positionAt f m) (items m);
 }
 
 -- checks 10 and 11, and what the walk finds besides
