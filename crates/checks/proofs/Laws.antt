@@ -1,15 +1,21 @@
 -- Checks 10 to 14 by their stages: the walk of the items, then the rest.
 -- Assumes nothing.
-use Prim.Native.Nat.{ℕ}
+use Prim.Native.Nat.{ℕ, _+_, _-_}
 use mathlib.Core.Path.{_≡_, refl, sym, _∙_}
+use mathlib.Core.Bool.{Bool, true, false, cond}
 use mathlib.Core.List.{List}
-use Rattle.rules.specs.Outcome.{good, bad, andThen}
+use native.Mathlib.Omega.{arith}
+use lib.Dec.{eqb}
+use borrow.Author.Tests.{ne-eqb}
+use Rattle.rules.specs.Outcome.{good, bad, refuse, andThen}
 use Rattle.rules.specs.Checks.{Check, runs, checked}
+use Rattle.rules.specs.First.{first, faultsAt}
 use Rattle.rules.specs.Descriptors.{globalsOf}
+use Rattle.rules.specs.Relocations.{items, positionAt}
 use Rattle.rules.specs.Reader.{moduleOf}
 use Rattle.rules.specs.Examine.{factsOf}
 use Rattle.rules.specs.Lending.{lendingCheck}
-use Rattle.rules.specs.Addresses.{addressesCheck}
+use Rattle.rules.specs.Addresses.{badAddress, addressesCheck}
 use Rattle.rules.specs.Choices.{choicesCheck}
 use Rattle.rules.specs.Load.{callChecks}
 use Rattle.rules.specs.Answers.{countOf}
@@ -18,9 +24,9 @@ use Rattle.rules.specs.declared.Module.{Module}
 use Rattle.rules.specs.declared.Walked.{Walked}
 use Rattle.rules.specs.declared.Checked.the-variants as answer
 use Rattle.demands.proofs.Reading.{module-reads}
-use Rattle.relocations.specs.Walk.{walkOf}
+use Rattle.relocations.specs.Walk.{markOf, walkOf}
 use Rattle.relocations.proofs.Laws.{walk-found, walk-refused}
-use Rattle.checks.specs.Lent.{lentIn}
+use Rattle.checks.specs.Lent.{markCheck, lentIn}
 
 -- a module's globals are counted
 pub module-count : (f : List ℕ) (m : Module) → moduleOf f ≡ good m → countOf (globalsOf f (m .headers) (m .descriptors)) ≡ good (m .globals)
@@ -29,6 +35,18 @@ module-count f m e = let r = module-reads f m e in rw (r .globals, r .count)
 -- a refusal is told once
 pub refused-once : (p q : Refusal) → answer.Refused p ≡ answer.Refused q → p ≡ q
 refused-once p q e = cc
+
+-- the first fault's mark tells the check
+mark-check : (number : ℕ) (hit : ℕ → Bool) (position : ℕ → ℕ) (n : ℕ) → markCheck number (markOf hit position n) ≡ faultsAt number position hit n
+unfolding markCheck markOf
+mark-check number hit position n = go (eqb (first hit 0 n) n)
+  where
+    k : ℕ
+    k = position (first hit 0 n)
+
+    go : (b : Bool) → cond (eqb (cond b 0 (k + 1)) 0) (good tt) (refuse number (cond b 0 (k + 1) - 1)) ≡ cond b (good tt) (refuse number k)
+    go true = refl
+    go false = let q : k + 1 - 1 ≡ k = omega arith in rw (ne-eqb (k + 1) 0 (λ z. omega arith), q)
 
 module _ (f : List ℕ) (m : Module) (bias n p : ℕ) (choices : List ℕ) where
   abbrev Checks : Check
@@ -42,7 +60,7 @@ module _ (f : List ℕ) (m : Module) (bias n p : ℕ) (choices : List ℕ) where
   unfolding lentIn addressesCheck
   checks-walked w e =
       let k = walk-found f m bias w e in
-      rw (k .passes, k .outside) (go (lendingCheck f m bias n p) (addressesCheck f m bias) (choicesCheck f m choices))
+      rw (k .passes, k .outside, mark-check 13 (badAddress f m bias) (positionAt f m) (items m)) (go (lendingCheck f m bias n p) (addressesCheck f m bias) (choicesCheck f m choices))
     where
       go : (a b c : Check) → andThen a (λ _. andThen b (λ _. c)) ≡ andThen a (λ _. andThen b (λ _. andThen c (λ _. good tt)))
       go (good _) (good _) (good _) = refl

@@ -6,18 +6,32 @@ ghost use Rattle.rules.specs.Reader.{moduleOf};
 ghost use Rattle.rules.specs.Examine.{factsOf};
 ghost use Rattle.rules.specs.Load.{callChecks};
 ghost use Rattle.rules.specs.Answers.{ofChecked, ofAnswer};
-ghost use Rattle.checks.specs.Lent.{lentIn};
+ghost use Rattle.checks.specs.Lent.{markCheck, lentIn};
 use rules::Answer;
 use rules::Checked;
 use rules::Module;
 use rules::NEVER;
+use rules::Refusal;
 use rules::WalkAnswer;
+
+// A check whose first fault is marked by one more than its position, none by 0.
+fn check_mark(number: u8, mark: u64) -> Checked
+    ensures { λ v. ⌜ ofChecked v ≡ markCheck number mark ⌝ }
+{
+    if mark == 0 {
+        return Checked::Passed;
+    }
+    Checked::Refused(Refusal {
+        number: number,
+        position: mark - 1,
+    })
+}
 
 // Checks 12 to 14 of a module that was read, where the walk of its items found the first address out of range.
 fn check_lent(
     f: &[u8],
     m: Module,
-    outside: u32,
+    outside: u64,
     bias: u64,
     memory: u64,
     plane: u64,
@@ -30,7 +44,7 @@ fn check_lent(
     let Checked::Passed = lent else {
         return lent;
     };
-    let addressed = reads::check_fault(13, m.relocations.entries, outside);
+    let addressed = check_mark(13, outside);
     let Checked::Passed = addressed else {
         return addressed;
     };

@@ -227,7 +227,7 @@ choice-position gs choices l i (wrong-number e q) = omega arith
 choice-position gs choices l i (bad-choice e a) = let u = a .below in omega arith
 
 -- the packed places of a module
-module-good : (f : List ℕ) (m : Module) → moduleOf f ≡ good m → Good f (m .relocations .entries) (m .packed)
+pub module-good : (f : List ℕ) (m : Module) → moduleOf f ≡ good m → Good f (m .relocations .entries) (m .packed)
 module-good f m e = packed-good f (m .headers) (m .dynamic) (m .relocations) (m .packed) (module-reads f m e .packed)
 
 entries-count : (f : List ℕ) (m : Module) → moduleOf f ≡ good m → m .relocations .entries ≤ entryLimit

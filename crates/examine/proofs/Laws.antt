@@ -10,8 +10,18 @@ use Rattle.rules.specs.declared.Refusal.{Refusal}
 use Rattle.rules.specs.declared.Module.{Module}
 use Rattle.rules.specs.declared.Walked.{Walked}
 use Rattle.laws.proofs.Stages.{examined-stages}
-use Rattle.relocations.specs.Walk.{walkOf}
+use Rattle.demands.proofs.Reading.{module-reads}
+use Rattle.demands.proofs.Refusals.{module-good, module-packs}
+use Rattle.relocations.specs.Walk.{Ready, walkOf}
 use Rattle.relocations.proofs.Laws.{walk-found, walk-refused}
+
+-- a module that was read is ready for the walk
+pub module-ready : (f : List ℕ) (m : Module) → moduleOf f ≡ good m → Ready f m
+module-ready f m e = record {
+  loads = module-reads f m e .loads;
+  counted = module-good f m e .counted;
+  few = module-packs f m e .few;
+}
 
 module _ (f : List ℕ) where
   pub examined-unread : (r : Refusal) → moduleOf f ≡ bad r → examinedOf f ≡ bad r

@@ -1,4 +1,4 @@
-// Examine: checks 1 to 11 of a file, and the facts.
+// Examine: every check of a file before 12, and the facts.
 ghost use mathlib.Core.Path.{_≡_};
 ghost use Rattle.rules.specs.Examine.{modeOf, switchOf, factsOf, examinedOf};
 ghost use Rattle.rules.specs.Relocations.{wordsOf};
@@ -58,7 +58,7 @@ pub fn facts_of(f: &[u8], m: Module, words: u32) -> Facts
     }
 }
 
-// Checks 1 to 11, and the facts.
+// Every check before 12, and the facts.
 pub fn examine_file(f: &[u8]) -> Answer
     ensures { λ v. ⌜ ofAnswer v ≡ examinedOf (now (f .entry)) ⌝ }
 {

@@ -1,4 +1,4 @@
-// The load: checks 1 to 14 before the first byte is written; then segments, tags, words.
+// The load: every check before the first byte is written; then segments, tags, words.
 ghost use mathlib.Core.Path.{_≡_};
 ghost use lib.ListN.{length};
 ghost use Rattle.rules.specs.Answers.{ofAnswer};

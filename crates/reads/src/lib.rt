@@ -1,15 +1,11 @@
-// Total reads of a list of bytes, exact comparisons of sums, and the first index at which a test holds or a check fails.
+// Total reads of a list of bytes, and exact comparisons of sums.
 ghost use mathlib.Core.Path.{_≡_};
-ghost use mathlib.Core.Bool.{cond, _&&_};
+ghost use mathlib.Core.Bool.{_&&_};
 ghost use Prim.Native.Nat.{_+_, _≤_, _<_};
-ghost use lib.Dec.{leb, eqb};
+ghost use lib.Dec.{leb};
 ghost use lib.ListN.{length, getD};
 ghost use Rattle.rules.specs.Bytes.{le, part};
-ghost use Rattle.rules.specs.First.{faultAt};
 ghost use Rattle.rules.specs.Segments.{covers};
-ghost use Rattle.rules.specs.Answers.{ofChecked};
-use rules::Checked;
-use rules::Refusal;
 
 fn byte(s: &[u8], at: usize) -> u8
     requires { ⌜ at < length (now s) ⌝ }
@@ -177,32 +173,4 @@ pub fn holds_range(start: u64, size: u64, a: u64, n: u64) -> bool
         return false;
     }
     a - start <= size - n
-}
-
-// The first of the indices up to i at which a test holds, from the first of those before i, and whether it holds at i. Where there
-// is none it is the number of indices.
-pub fn first_after(found: u32, i: u32, hit: bool) -> u32
-    requires { ⌜ i < 4294967295 ⌝ }
-    ensures { λ r. ⌜ r ≡ cond hit found (cond (eqb found i) (i + 1) found) ⌝ }
-{
-    if hit {
-        return found;
-    }
-    if found == i {
-        return i + 1;
-    }
-    found
-}
-
-// A check that found the first fault among n: refused with its number there, passed where there is none.
-pub fn check_fault(number: u8, n: u32, lowest: u32) -> Checked
-    ensures { λ r. ⌜ ofChecked r ≡ faultAt number (λ i. i) n lowest ⌝ }
-{
-    if lowest == n {
-        return Checked::Passed;
-    }
-    Checked::Refused(Refusal {
-        number: number,
-        position: lowest as u64,
-    })
 }

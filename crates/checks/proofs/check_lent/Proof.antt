@@ -18,7 +18,7 @@ returns-2 c =
     let F = c .before .before in
     let T = F .before in
     let L = T .before .before in
-    rw (← L .check-lending .ensures, T .enum-told .given .1, ← F .check-fault .ensures, c .enum-told4 .given .1)
+    rw (← L .check-lending .ensures, T .enum-told .given .1, ← F .check-mark .ensures, c .enum-told4 .given .1)
 
 check-choices-requires : tie.Need-check-choices-requires
 check-choices-requires c κs =
@@ -33,7 +33,7 @@ returns-3 c =
     let F = G .before .before in
     let T = F .before in
     let L = T .before .before in
-    rw (← L .check-lending .ensures, T .enum-told .given .1, ← F .check-fault .ensures, G .enum-told3 .given .1) (c .check-choices .ensures)
+    rw (← L .check-lending .ensures, T .enum-told .given .1, ← F .check-mark .ensures, G .enum-told3 .given .1) (c .check-choices .ensures)
 
 pub check-lent-spec : {M : Type 1} → statement M
 check-lent-spec =

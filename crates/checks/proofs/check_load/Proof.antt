@@ -2,7 +2,7 @@
 -- Assumes nothing.
 use mathlib.Core.Path.{sym, ap, _∙_}
 use Rattle.rules.specs.Outcome.{bad}
-use Rattle.demands.proofs.Refusals.{module-counted}
+use Rattle.examine.proofs.Laws.{module-ready}
 use Rattle.relocations.proofs.Laws.{walk-found}
 use Rattle.checks.proofs.Laws.{refused-once, check-stopped, check-refused, check-passed}
 use borrow.Author.Needs.{needs}
@@ -10,7 +10,7 @@ use Rattle.checks.proofs.check_load.Statement.{statement}
 use Rattle.checks.proofs.check_load.Tie as tie
 
 check-relocations-requires : tie.Need-check-relocations-requires
-check-relocations-requires c κs = let S = c .before .before in module-counted (S .args .f .now) (S .args .m) (S .pre) .0
+check-relocations-requires c κs = let S = c .before .before in module-ready (S .args .f .now) (S .args .m) (S .pre)
 
 returns-2 : tie.Need-returns-2
 returns-2 c =

@@ -1,7 +1,7 @@
 -- The reader, then the walk, in their order; a refusal is passed up.
 -- Assumes nothing.
 use mathlib.Core.Path.{sym, _∙_}
-use Rattle.demands.proofs.Refusals.{module-counted}
+use Rattle.examine.proofs.Laws.{module-ready}
 use Rattle.relocations.proofs.Laws.{walk-found}
 use Rattle.examine.proofs.Laws.{examined-unread, examined-refused, examined-taken}
 use borrow.Author.Needs.{needs}
@@ -19,7 +19,7 @@ check-relocations-requires : tie.Need-check-relocations-requires
 check-relocations-requires c κs =
     let R = c .before in
     let a = R .before .before .before .before .args in
-    module-counted (a .f .now) (R .read .given .0 .0) (sym (rw (R .read .given .1) at (R .before .before .read-module .ensures))) .0
+    module-ready (a .f .now) (R .read .given .0 .0) (sym (rw (R .read .given .1) at (R .before .before .read-module .ensures)))
 
 returns-4 : tie.Need-returns-4
 returns-4 c =
