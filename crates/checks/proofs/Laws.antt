@@ -44,7 +44,10 @@ mark-check number hit position n = go (eqb (first hit 0 n) n)
     k : ℕ
     k = position (first hit 0 n)
 
-    go : (b : Bool) → cond (eqb (cond b 0 (k + 1)) 0) (good tt) (refuse number (cond b 0 (k + 1) - 1)) ≡ cond b (good tt) (refuse number k)
+    passed : Check
+    passed = good tt
+
+    go : (b : Bool) → cond (eqb (cond b 0 (k + 1)) 0) passed (refuse number (cond b 0 (k + 1) - 1)) ≡ cond b passed (refuse number k)
     go true = refl
     go false = let q : k + 1 - 1 ≡ k = omega arith in rw (ne-eqb (k + 1) 0 (λ z. omega arith), q)
 

@@ -29,7 +29,6 @@ use Rattle.demands.proofs.Lending.{Lent, memory-lent, plane-lent, lendi
 use Rattle.demands.proofs.Plane.{Chosen, choices-chosen, plane-holds, plane-small}
 use Rattle.demands.proofs.Image.{image-size, image-holds}
 use Rattle.demands.proofs.Sources.{tagOf-small}
-
 use Rattle.demands.specs.Demands.{Relocates, Leaves}
 
 -- a run of items from the first

@@ -8,10 +8,11 @@ use lib.ListN.{length}
 use Rattle.rules.specs.Outcome.{good, bad}
 use Rattle.rules.specs.Checks.{runs, checked}
 use Rattle.rules.specs.Reader.{moduleOf}
-use Rattle.rules.specs.Relocations.{placeAt, live, items}
+use Rattle.rules.specs.Bytes.{le}
+use Rattle.rules.specs.Relocations.{placeAt, live, items, targetAt}
 use Rattle.rules.specs.Examine.{factsOf}
 use Rattle.rules.specs.Choices.{globalsIn}
-use Rattle.rules.specs.Image.{imageOf}
+use Rattle.rules.specs.Image.{imageOf, loadedAt}
 use Rattle.rules.specs.Words.{wordAt}
 use Rattle.rules.specs.Load.{callChecks, loadedMemory, loadedPlane}
 use Rattle.rules.specs.declared.Refusal.{Refusal}
@@ -19,14 +20,16 @@ use Rattle.rules.specs.declared.Module.{Module}
 use Rattle.rules.specs.declared.Facts.{Facts}
 use Rattle.rules.proofs.OutcomeLaws.{andThen-good}
 use Rattle.laws.proofs.Checks.{andThen-bad}
+use Rattle.laws.proofs.Items.{packed-live}
 use Rattle.laws.proofs.Places.{address-ranged}
 use Rattle.laws.proofs.Writes.{writes-same}
 use Rattle.demands.specs.Calls.{Buffers, loadInto, Call}
 use Rattle.demands.proofs.Exactly.{Passes, checks-passes, passes-taken, load-unread, load-refused}
 use Rattle.demands.proofs.Reading.{module-reads}
-use Rattle.demands.proofs.Image.{image-size, image-holds}
-use Rattle.demands.proofs.Standing.{passes-stands}
-use Rattle.relocating.specs.Words.{wordIn}
+use Rattle.demands.proofs.Image.{image-size}
+use Rattle.demands.proofs.Refusals.{module-good, module-packs}
+use Rattle.demands.proofs.Standing.{passes-stands, held-image}
+use Rattle.relocating.specs.Words.{targetOver, wordIn, Placed}
 use Rattle.relocating.proofs.WriteLaws.{relocated-writes}
 use Rattle.tags.proofs.Laws.{plane-tagged}
 use Rattle.load.specs.Written.{writtenPlane, writtenMemory}
@@ -39,19 +42,38 @@ module _ (f : List ℕ) (bias n p : ℕ) (choices : List ℕ) (m : Module) (c : 
       let r = module-reads f m (c .reads) in
       plane-tagged f (m .headers) (m .descriptors) (globalsIn f m) (r .globals) choices (m .globals) (sym (r .count)) p
 
-  -- the word of an item over the image is the rules' word
-  word-written : (plane : List ℕ) (k : ℕ) → wordIn f m bias plane (imageOf f (m .headers) n) k ≡ wordAt f m bias n plane k
-  word-written plane k =
+  abbrev image : List ℕ
+  image = imageOf f (m .headers) n
+
+  held : (k : ℕ) → le 8 image (placeAt f m k) ≡ loadedAt f (m .headers) (placeAt f m k)
+  held k = held-image f bias n p choices m (passes-stands f bias n p choices m c) (placeAt f m k)
+
+  -- the target and the word of an item over the image are the rules'
+  target-written : (k : ℕ) → targetOver f m image k ≡ targetAt f m k
+  unfolding targetOver targetAt
+  target-written k = rw (held k)
+
+  word-written : (plane : List ℕ) (k : ℕ) → wordIn f m bias plane image k ≡ wordAt f m bias n plane k
+  word-written plane k = rw (target-written k, image-size f (m .headers) n, held k)
+
+  -- the packed places are counted, and lie in memory
+  pub packed-placed : Placed f m
+  packed-placed =
       let s = passes-stands f bias n p choices m c in
-      let size = image-size f (m .headers) n in
-      let held = image-holds f m n (s .reading .headers) (s .reading .loads) (s .lent .holds) .loaded-words (placeAt f m k) in
-      rw (size, held)
+      record {
+        counted = module-good f m (c .reads) .counted;
+        few = module-packs f m (c .reads) .few;
+        low = λ k l u.
+            let i = s .apart .inside k (omega arith) (omega arith) (packed-live f m k l) in
+            let z = image-size f (m .headers) n in
+            let b = s .lent .short in
+            omega arith;
+      }
 
   pub memory-written : (plane : List ℕ) → writtenMemory f m bias plane n ≡ loadedMemory f m bias n plane
   memory-written plane =
       let s = passes-stands f bias n p choices m c in
-      let image = imageOf f (m .headers) n in
-      relocated-writes f m bias plane image (items m) (s .apart) (λ k l t. address-ranged f m bias (c .addresses) k l t)
+      relocated-writes f m bias plane image (items m) (s .apart) (λ k l t. rw (target-written k) (address-ranged f m bias (c .addresses) k l t))
       ∙ writes-same (live f m) (placeAt f m) image 0 (wordIn f m bias plane image) (wordAt f m bias n plane) (items m) (λ k _ _ _. word-written plane k)
 
 -- ---- the call
@@ -78,6 +100,11 @@ module _ (f : List ℕ) (bias : ℕ) (choices : List ℕ) (lent : Buffers) where
     call-unfit r k =
         call-refused r (load-refused f bias N P choices m r e
         (andThen-bad (runs (callChecks f m bias N P choices)) _ k (λ q. q) (λ _ _ q. absurd (let z : _≡_ {A = ℕ} 0 1 = cc in omega arith))))
+
+    pub call-placed : (a : Facts) → Answered a → Placed f m
+    call-placed a k =
+        let g = andThen-good (runs (callChecks f m bias N P choices)) _ k in
+        packed-placed f bias N P choices m (checks-passes f bias N P choices m e (g .here))
 
     pub call-taken : (a : Facts) (left : Buffers) → Answered a
         → left .memory ≡ writtenMemory f m bias (writtenPlane f m choices P) N → left .plane ≡ writtenPlane f m choices P

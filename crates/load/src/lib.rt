@@ -3,6 +3,7 @@ ghost use mathlib.Core.Path.{_≡_};
 ghost use lib.ListN.{length};
 ghost use Rattle.rules.specs.Answers.{ofAnswer};
 ghost use Rattle.demands.specs.Calls.{Call, buffers};
+ghost use Rattle.relocating.specs.Words.{Placed};
 ghost use Rattle.load.specs.Written.{writtenPlane, writtenMemory};
 use rules::Answer;
 use rules::Module;
@@ -11,6 +12,7 @@ use rules::NEVER;
 
 // The writes: zeros and segments, then tags, then words.
 fn write_load(f: &[u8], m: Module, bias: u64, memory: &mut [u8], plane: &mut [u8], choices: &[u8])
+    requires { ⌜ Placed (now f) m ⌝ }
     ensures placed { λ _. ⌜ now (memory .exit) ≡ writtenMemory (now (f .entry)) m bias (writtenPlane (now (f .entry)) m (now (choices .entry)) (length (now (plane .entry)))) (length (now (memory .entry))) ⌝ }
     ensures tagged { λ _. ⌜ now (plane .exit) ≡ writtenPlane (now (f .entry)) m (now (choices .entry)) (length (now (plane .entry))) ⌝ }
 {

@@ -1,25 +1,29 @@
 -- A word's low 64 bits are all that is written; and what a place holds before its own write is what was loaded.
 -- Assumes nothing.
-use Prim.Native.Nat.{ℕ, zero, suc, _+_, _*_, _/_, _%_, _^_, _<_}
+use Prim.Native.Nat.{ℕ, zero, suc, _+_, _*_, _/_, _%_, _^_, _≤_, _<_}
 use mathlib.Core.Path.{_≡_, refl, sym, ap, _∙_}
 use mathlib.Core.Bool.{Bool, true, false}
 use mathlib.Core.List.{List, [], _∷_, _++_}
 use mathlib.Core.Logic.{_⊎_, inl, inr, ⊎-elim}
+use native.Mathlib.Nat.{zero-add, add-zero, add-suc}
 use native.Mathlib.Omega.{arith}
 use lib.ListN.{length, getD}
 use lib.IntN.{ℤ, pos, negsuc}
-use borrow.Author.Tests.{leb-false}
+use borrow.Author.Tests.{leb-false, le-leb, lt-leb, eq-eqb, ne-eqb}
 use Rattle.rules.specs.Limits.{addressLimit}
 use Rattle.rules.specs.Bytes.{le}
 use Rattle.rules.specs.Memory.{bytesOf, put, putWord, mod64}
-use Rattle.rules.specs.Relocations.{placeAt, live}
-use Rattle.rules.specs.Addresses.{outOfRange, natural, addressAt}
+use Rattle.rules.specs.Relocations.{entryAt, kindAt, symbolAt, placeAt, addendAt, live, target}
+use Rattle.rules.specs.Addresses.{addressOf, outOfRange, natural}
 use Rattle.rules.specs.Words.{writes}
 use Rattle.rules.specs.declared.Module.{Module}
+use Rattle.rules.specs.declared.Target.{Target}
+use Rattle.rules.specs.declared.Target.the-variants.{Defined}
 use Rattle.rules.proofs.MemoryLaws.{put-length}
 use Rattle.laws.proofs.Checks.{cond-case, cond-both}
+use Rattle.laws.proofs.Items.{entry-live, entry-place, entry-addend, packed-live, packed-addend}
 use Rattle.laws.proofs.Writes.{Apart, apart-fewer, writes-length, writes-other, low-bytes}
-use Rattle.relocating.specs.Words.{wordIn, written, relocated}
+use Rattle.relocating.specs.Words.{targetWord, targetOver, wordIn, written, relocatedFrom, relocated}
 use Rattle.rules.proofs.OutcomeLaws.{never}
 
 -- ---- the low 64 bits
@@ -65,32 +69,66 @@ place-kept live place w m n a k l t =
     le-same 8 (writes live place w m 0 k) m (place k) (λ j b. writes-other live place m 0 w k (place k + j) (λ i g h s.
     ⊎-elim (λ below. inr (omega arith)) (λ above. inl (omega arith)) (a .apart i k g (omega arith) (omega arith) s t)))
 
+-- ---- one item
+
+module _ (f : List ℕ) (m : Module) (bias : ℕ) (plane mem : List ℕ) (i : ℕ) where
+  module _ (l : i < m .relocations .entries) where
+    pub entry-skipped : kindAt f m i ≡ 0 → written f m bias plane mem i ≡ mem
+    unfolding written
+    entry-skipped e = rw (entry-live f m i l, eq-eqb (kindAt f m i) 0 e)
+
+    pub entry-written : (place addend : ℕ) (t : Target) → (kindAt f m i ≡ 0 → ⊥) → place ≡ le 8 f (entryAt (m .relocations) i)
+        → addend ≡ le 8 f (entryAt (m .relocations) i + 16) → t ≡ target f (m .headers) (m .symbols) (kindAt f m i) (symbolAt f m i)
+        → written f m bias plane mem i ≡ putWord mem place (targetWord plane bias mem t addend place)
+    unfolding written targetOver
+    entry-written place addend t e p a g =
+        rw (entry-live f m i l, ne-eqb (kindAt f m i) 0 e, entry-place f m i l, entry-addend f m i l, lt-leb (m .relocations .entries) i l, p, a, g)
+
+  pub packed-written : (place : ℕ) → m .relocations .entries ≤ i → placeAt f m i ≡ place
+      → written f m bias plane mem i ≡ putWord mem place (targetWord plane bias mem (Defined (le 8 mem place)) 0 place)
+  unfolding written targetOver
+  packed-written place l e = rw (packed-live f m i l, packed-addend f m i l, le-leb (m .relocations .entries) i l, e)
+
 -- ---- the write pass
 
-module _ (f : List ℕ) (m : Module) (bias : ℕ) (plane mem : List ℕ) where
-  pub relocated-length : (n : ℕ) → length (relocated f m bias plane mem n) ≡ length mem
-  unfolding relocated written putWord
-  relocated-length zero = refl
-  relocated-length (suc n) =
-      let h = relocated-length n in
-      cond-case (λ (l : List ℕ). length l ≡ length mem) (live f m n) _ _
-      (λ t. put-length (relocated f m bias plane mem n) (placeAt f m n) _ ∙ h) (λ t. h)
+module _ (f : List ℕ) (m : Module) (bias : ℕ) (plane : List ℕ) where
+  pub relocated-length : (mem : List ℕ) (i n : ℕ) → length (relocatedFrom f m bias plane mem i n) ≡ length mem
+  unfolding relocatedFrom written putWord
+  relocated-length mem i zero = refl
+  relocated-length mem i (suc n) =
+      let h = relocated-length mem i n in
+      cond-case (λ (l : List ℕ). length l ≡ length mem) (live f m (i + n)) _ _
+      (λ t. put-length (relocatedFrom f m bias plane mem i n) (placeAt f m (i + n)) _ ∙ h) (λ t. h)
+
+  -- some items, and then more
+  pub relocated-more : (mem : List ℕ) (a n : ℕ)
+      → relocatedFrom f m bias plane (relocated f m bias plane mem a) a n ≡ relocated f m bias plane mem (a + n)
+  unfolding relocatedFrom
+  relocated-more mem a zero = rw add-zero
+  relocated-more mem a (suc n) =
+      let ih = relocated-more mem a n in
+      rw (add-suc, zero-add) (ap (λ (s : List ℕ). written f m bias plane s (a + n)) ih)
+
+  -- a place that holds the same has the same target
+  target-kept : (mem other : List ℕ) (i : ℕ) → le 8 mem (placeAt f m i) ≡ le 8 other (placeAt f m i) → targetOver f m mem i ≡ targetOver f m other i
+  unfolding targetOver
+  target-kept mem other i e = rw e
 
   -- is the rules' run of writes, where the places are apart and the addresses in range
-  pub relocated-writes : (n : ℕ) → Apart (live f m) (placeAt f m) (length mem) 0 n
-      → ((k : ℕ) → k < n → live f m k ≡ true → outOfRange (addressAt f m bias k) ≡ false)
+  pub relocated-writes : (mem : List ℕ) (n : ℕ) → Apart (live f m) (placeAt f m) (length mem) 0 n
+      → ((k : ℕ) → k < n → live f m k ≡ true → outOfRange (addressOf bias (targetOver f m mem k) (addendAt f m k)) ≡ false)
       → relocated f m bias plane mem n ≡ writes (live f m) (placeAt f m) (wordIn f m bias plane mem) mem 0 n
-  unfolding relocated written writes
-  relocated-writes zero a r = refl
-  relocated-writes (suc n) a r =
+  unfolding relocatedFrom written writes
+  relocated-writes mem zero a r = refl
+  relocated-writes mem (suc n) a r =
       let W = wordIn f m bias plane mem in
       let A = writes (live f m) (placeAt f m) W mem 0 n in
-      let h = relocated-writes n (apart-fewer (live f m) (placeAt f m) (length mem) 0 n a) (λ k l. r k (omega arith)) in
+      let h = relocated-writes mem n (apart-fewer (live f m) (placeAt f m) (length mem) 0 n a) (λ k l. r k (omega arith)) in
       let z : 0 + n ≡ n = omega arith in
       rw (z, h)
       (cond-both (λ (x y : List ℕ). x ≡ y) (live f m n) _ _ _ _
       (λ t.
       let len : length A ≡ length mem = writes-length (live f m) (placeAt f m) mem 0 W n in
       let kept : le 8 A (placeAt f m n) ≡ le 8 mem (placeAt f m n) = place-kept (live f m) (placeAt f m) W mem (suc n) a n (omega arith) t in
-      rw (len, kept, mod-natural (addressAt f m bias n) (r n (omega arith) t)))
+      rw (target-kept A mem n kept, len, kept, mod-natural (addressOf bias (targetOver f m mem n) (addendAt f m n)) (r n (omega arith) t)))
       (λ t. refl))

@@ -5,6 +5,7 @@ use mathlib.Core.Path.{_≡_}
 use mathlib.Core.Bool.{cond}
 use mathlib.Core.List.{List}
 use lib.ListN.{length}
+use Rattle.rules.specs.Limits.{entryLimit}
 use Rattle.rules.specs.Bytes.{le}
 use Rattle.rules.specs.Memory.{putWord, mod64}
 use Rattle.rules.specs.Packed.{packedBefore}
@@ -47,7 +48,8 @@ relocated f m bias plane mem n = relocatedFrom f m bias plane mem 0 n
 abbrev pub wordIn : List ℕ → Module → ℕ → List ℕ → List ℕ → ℕ → ℕ
 wordIn f m bias plane mem i = wordOf plane bias (length mem) (targetOver f m mem i) (addendAt f m i) (le 8 mem (placeAt f m i))
 
--- the packed places of a module are counted, and none is too high
+-- the packed places of a module are counted and few, and none is too high
 pub record Placed (f : List ℕ) (m : Module) : Type 0 where
   pub counted : m .packed .places ≡ length (packedBefore f (m .packed .at) (m .packed .words))
+  pub few : items m ≤ entryLimit
   pub low : (k : ℕ) → m .relocations .entries ≤ k → k < items m → placeAt f m k ≤ placeLimit

@@ -69,10 +69,10 @@ fn relocate_packed(f: &[u8], m: Module, bias: u64, plane: &[u8], mem: &mut [u8])
     requires { ⌜ Placed (now f) m ⌝ }
     ensures { λ _. ⌜ now (mem .exit) ≡ relocatedFrom (now (f .entry)) m bias (now (plane .entry)) (now (mem .entry)) (m .relocations .entries) (m .packed .places) ⌝ }
 {
-    let t = m.packed;
-    let n = t.places;
+    let n = m.packed.places;
     let mut run = START;
-    for j in 0..n {
+    for _ in 0..n {
+        let t = m.packed;
         run = places::next_place(f, t, run);
         write_packed(plane, bias, run.place as usize, mem);
     }

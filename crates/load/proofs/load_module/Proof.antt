@@ -4,7 +4,7 @@ use Prim.Native.Nat.{ℕ}
 use mathlib.Core.Path.{_≡_, sym}
 use native.Mathlib.Omega.{arith}
 use Rattle.demands.specs.Calls.{buffers}
-use Rattle.load.proofs.Laws.{call-unread, call-unfit, call-taken}
+use Rattle.load.proofs.Laws.{call-unread, call-unfit, call-placed, call-taken}
 use borrow.Author.Needs.{needs}
 use Rattle.load.proofs.load_module.Statement.{statement}
 use Rattle.load.proofs.load_module.Tie as tie
@@ -38,6 +38,17 @@ returns-3 c =
     let x = sym (rw (refused .enum-told3 .given .1) at (checked .check-load .ensures)) in
     rw (refused .enum-told3 .given .1) (call-unfit (a .f .now) (a .bias) (a .choices .now) (buffers (a .memory .now) (a .plane .now)) m e r x)
 
+write-load-requires : tie.Need-write-load-requires
+write-load-requires c κs =
+    let taken = c .before .before in
+    let checked = taken .before .before in
+    let read = checked .before .before in
+    let a = read .before .before .before .before .before .before .before .args in
+    let m = read .read .given .0 .0 in
+    let e = sym (rw (read .read .given .1) at (read .before .before .read-module .ensures)) in
+    let x = sym (rw (taken .enum-told2 .given .1) at (checked .check-load .ensures)) in
+    call-placed (a .f .now) (a .bias) (a .choices .now) (buffers (a .memory .now) (a .plane .now)) m e (taken .enum-told2 .given .0 .0) x
+
 returns-4 : tie.Need-returns-4
 returns-4 c =
     let written = c .before .before .before .before in
@@ -56,4 +67,4 @@ pub load-module-spec : {M : Type 1} → statement M
 load-module-spec =
     tie.close
     (tie.spec (search needs) (search needs) (search needs) (search needs) (search needs) returns returns-2 check-load-requires (search needs)
-    (search needs) returns-3 (search needs) (search needs) (search needs) returns-4)
+    (search needs) returns-3 write-load-requires (search needs) (search needs) returns-4)
