@@ -166,11 +166,7 @@ fn relocations<'a, R: Rules>(
 }
 
 /// The packed table, none where it is not backed.
-fn packed<'a, R: Rules>(
-    file: &'a [u8],
-    segments: &Segments,
-    values: &Values,
-) -> Option<&'a [u8]> {
+fn packed<'a, R: Rules>(file: &'a [u8], segments: &Segments, values: &Values) -> Option<&'a [u8]> {
     table::<R>(file, segments, values[RELR], values[RELRSZ], R::EMPTY_PACKED_ANYWHERE)
 }
 

@@ -128,7 +128,8 @@ impl<'a> Image<'a> {
         for (_, place) in Places::<R>::new(packed) {
             let place = place as usize;
             let loaded = u64_at(memory, place);
-            let tag = R::packed_source(bias, loaded).map_or(0, |source| tag_at(plane, source, bias));
+            let tag =
+                R::packed_source(bias, loaded).map_or(0, |source| tag_at(plane, source, bias));
             let word = R::packed_address(bias, loaded) as u64 | u64::from(tag) << 56;
             memory[place..place + 8].copy_from_slice(&word.to_le_bytes());
         }

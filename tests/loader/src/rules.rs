@@ -87,7 +87,7 @@ pub trait Rules {
         relocations.len() / ENTRY
     }
 
-    /// 15: how many places a packed word names. Most odd words of a long row name none.
+    /// 15: how many places a packed word names; an empty bitmap costs least.
     fn named(word: u64) -> usize {
         match word {
             1 => 0,
@@ -311,6 +311,8 @@ pub trait Rules {
     /// The plain loader of demand 3 knows the packed tags, and keeps 15.
     const UNTAGGED_KNOWS_PACKED: bool = true;
     const UNTAGGED_CHECKS_PACKED: bool = true;
+    /// There too it comes before 10 and 11.
+    const UNTAGGED_PACKED_LATE: bool = false;
 
     // The writer of tables.
 

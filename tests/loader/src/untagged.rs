@@ -32,6 +32,9 @@ pub fn load_untagged_by<R: Rules>(
         relocations: found.relocations,
         packed: found.packed.unwrap_or_default(),
     };
+    if R::UNTAGGED_PACKED_LATE {
+        tables.check::<R>()?;
+    }
     if R::UNTAGGED_CHECKS_PACKED {
         packed::check::<R>(found.packed, found.relocations)?;
     }

@@ -1,9 +1,10 @@
 //! The generated cases tell every seeded fault from the right loader.
 
-use loader::answers::{Loader, RIGHT};
-use loader::faults::{Fault, FAULTS, WRITER_FAULTS};
+use loader::answers::{Call, Loader, RIGHT};
+use loader::faults::{Fault, FAULTS, UNTAGGED_FAULTS, WRITER_FAULTS};
 use loader::generate::list::write_case;
 use loader::generate::{cases, count, step_case, SEED};
+use loader::load_untagged;
 use std::panic::{catch_unwind, AssertUnwindSafe};
 
 /// Counts by fault, in a table with the first case that tells it from the right one.
@@ -18,10 +19,10 @@ impl Caught {
     }
 
     /// What each wrong loader does, beside what the right one did.
-    fn case<T: PartialEq>(&mut self, name: &str, right: T, by: impl Fn(&dyn Loader) -> T) {
+    fn case<T: PartialEq>(&mut self, name: &str, right: T, by: impl Fn(&Fault) -> T) {
         for (fault, (times, stops, first)) in self.faults.iter().zip(&mut self.counts) {
             // A wrong loader that stops is told apart as well, but counted on its own.
-            match catch_unwind(AssertUnwindSafe(|| by(fault.loader))) {
+            match catch_unwind(AssertUnwindSafe(|| by(fault))) {
                 Ok(wrong) if wrong == right => continue,
                 Ok(_) => *times += 1,
                 Err(_) => *stops += 1,
@@ -46,18 +47,24 @@ impl Caught {
 fn each_is_caught() {
     let total = count(11_000);
     let (mut loads, mut writes) = (Caught::new(FAULTS), Caught::new(WRITER_FAULTS));
+    let mut untagged = Caught::new(UNTAGGED_FAULTS);
     std::panic::set_hook(Box::new(|_| {}));
     for (i, case) in cases(SEED, total).enumerate() {
         let name = format!("case {i}, {}", case.name);
-        loads.case(&name, RIGHT.outcome(&case.call), |loader| loader.outcome(&case.call));
+        loads.case(&name, RIGHT.outcome(&case.call), |f| f.loader.outcome(&case.call));
+        let Call { file, bias, memory_length, .. } = &case.call;
+        let length = *memory_length as u64;
+        let right = load_untagged(file, *bias, length);
+        untagged.case(&name, right, |f| (f.untagged)(file, *bias, length));
     }
     for i in 0..total {
         let case = write_case(SEED, i);
         let name = format!("list {i}, {}", case.name);
-        writes.case(&name, RIGHT.written(&case.list), |loader| loader.written(&case.list));
+        writes.case(&name, RIGHT.written(&case.list), |f| f.loader.written(&case.list));
     }
     let _ = std::panic::take_hook();
     loads.each(total);
+    untagged.each(total);
     writes.each(total);
 }
 
