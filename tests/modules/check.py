@@ -255,7 +255,7 @@ POINTERS = {
     "absent": (None, 0), "absent_far": (None, 16), "ends": ("readings", 32),
 }
 PACKED = {
-    "limits_end": ("limits", 16), "last": ("back", 0), "dense": ("limits", 0), "level_end": ("level", 4), "absent": (None, 0),
+    "limits_last": ("limits", 12), "last": ("back", 0), "dense": ("limits", 0), "level_end": ("level", 4), "absent": (None, 0),
 }
 UNTAGGED = {"values_end": ("values", 16), "shared_at": ("shared_value", 0)}
 MEANT = {
@@ -399,20 +399,23 @@ def check_edits(m, loader, scratch):
 def check_packed_edits(m, loader, scratch):
     """The packed module with one thing spoiled."""
     entry = lambda tag: first(m.dynamic, lambda d: d[0] == tag)
-    put = lambda at, *words: m.bytes[:at] + b"".join(w.to_bytes(8, "little") for w in words) + m.bytes[at + 8 * len(words):]
+    put = lambda at, *words, data=m.bytes: data[:at] + b"".join(w.to_bytes(8, "little") for w in words) + data[at + 8 * len(words):]
     dynamic = next(h for h in m.headers if h[0] == "DYNAMIC")[1]
     value_of = lambda tag: dynamic + 16 * entry(tag) + 8
     table, words, rela, taken = m.offset(m.tag(RELR)), m.relr(), len(m.rela), len(m.globals()) * 256
     last = table + 8 * (len(words) - 1)
     index, place = m.packed[130]
+    # Room for a longer table; the entry of its bytes stands behind that of its address.
+    space = m.symtab["space"][0]
+    expect(entry(RELRSZ) == entry(RELR) + 1, f"{m.name}: the packed entries stand apart")
     for what, data, number, position, examined in [
         ("packed bytes 4 more", put(value_of(RELRSZ), m.tag(RELRSZ) + 4), 6, entry(RELRSZ), None),
         ("packed words of 16 bytes", put(value_of(RELRENT), 16), 6, entry(RELRENT), None),
         ("no packed entry size", put(value_of(RELRENT) - 8, 0x6FFFE003), 6, first(m.dynamic, lambda d: d[0] == 0), None),
         ("packed words outside", put(value_of(RELR), 0xF0000), 15, 0, None),
         ("a bitmap first", put(table, words[0] | 1), 15, 0, None),
-        ("full bitmaps in a longer table", put(value_of(RELRSZ), 8 * 30)[:table] + put(table, words[0], *[MASK] * 29)[table:], 15,
-         first(range(30), lambda i: rela + 1 + 63 * i > MOST), None),
+        ("full bitmaps", put(m.offset(space), words[0], *[MASK] * 30, data=put(value_of(RELR), space, RELRSZ, 8 * 31)), 15,
+         first(range(31), lambda i: rela + 1 + 63 * i > MOST), None),
         ("a place at 4 modulo 8", put(last, words[-1] + 4), 11, rela + len(words) - 1, None),
         ("a packed place in read-only memory", put(last, 0x100), 11, rela + len(words) - 1, None),
         ("a RELA place packed", put(last, m.rela[1][0]), 11, rela + len(words) - 1, None),
