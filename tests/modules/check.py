@@ -472,6 +472,16 @@ def check_nine_hour(m, loader):
     expect(word >> 56 == plane[lines // 16] != plane[age // 16], f"{m.name}: the log's end carries tag {word >> 56}")
 
 
+def check_packed_end(m, loader):
+    """A packed word has the tag of the granule that it points at: the end of data without tags may be a tagged global."""
+    length, choices = (m.end() + 15) // 16 * 16, choose(len(m.globals()))
+    _, _, _, memory, plane = loader.load(m.path, BIASES[0], length, length // 16, choices)
+    place, end = m.symtab["limits_end"][0], m.symtab["limits"][0] + 16
+    word = int.from_bytes(memory[place:place + 8], "little")
+    expect(any(place == packed for _, packed in m.packed), f"{m.name}: limits_end is not packed")
+    expect(word == BIASES[0] + end | plane[end // 16] << 56 and word >> 56, f"{m.name}: limits_end is {word:#x}")
+
+
 def main():
     readelf, scratch, folder, programs, _, *emulator = sys.argv[1:]
     loader = Loader(emulator + [os.path.join(programs, "load_file")], scratch)
@@ -499,6 +509,8 @@ def main():
             check_late_refusals(m, loader)
         if m.name == "4096/pointers":
             check_edits(m, loader, scratch)
+        if name == "packed":
+            check_packed_end(m, loader)
         if m.name == "4096/packed":
             check_packed_edits(m, loader, scratch)
         if name == "nine_hour":

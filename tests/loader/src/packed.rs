@@ -1,25 +1,32 @@
 //! Check 15, and the places that packed words name.
 
-use crate::bytes::u64_at;
 use crate::relocations::ENTRY;
 use crate::rules::Rules;
 use crate::{refusal, Refusal};
-use std::iter::Enumerate;
-use std::slice::ChunksExact;
+use std::marker::PhantomData;
+use std::slice::Iter;
 
-const WORD: usize = 8;
+type Word = [u8; 8];
+
+#[inline]
+fn words(table: &[u8]) -> &[Word] {
+    table.as_chunks().0
+}
 
 /// Check 15 of a packed table, none where it is not backed, beside the RELA table.
 pub fn check<R: Rules>(table: Option<&[u8]>, relocations: &[u8]) -> Result<(), Refusal> {
-    let table = table.ok_or(refusal(15, 0))?;
+    let words = words(table.ok_or(refusal(15, 0))?);
+    // Only the first word can be an odd one before any even one.
+    if words.first().is_some_and(|word| word[0] & 1 != 0) && !R::ODD_FIRST {
+        return Err(refusal(15, 0));
+    }
     let mut total = R::counted(relocations);
-    for (index, word) in table.chunks_exact(WORD).enumerate() {
-        let word = u64_at(word, 0);
-        // Only the first word can be an odd one before any even one.
-        if index == 0 && word & 1 != 0 && !R::ODD_FIRST {
-            return Err(refusal(15, 0));
+    for (index, &word) in words.iter().enumerate() {
+        let named = R::named(u64::from_le_bytes(word));
+        if named == 0 {
+            continue;
         }
-        total += R::named(word);
+        total += named;
         if total > R::MOST_PLACES {
             return Err(refusal(15, R::passed_at(index, relocations.len() / ENTRY)));
         }
@@ -29,20 +36,25 @@ pub fn check<R: Rules>(table: Option<&[u8]>, relocations: &[u8]) -> Result<(), R
 
 /// The places of a packed table in order, each with the index of its word.
 pub struct Places<'a, R> {
-    words: Enumerate<ChunksExact<'a, u8>>,
-    /// The bitmap being read: its index, where its run starts, and its bits left, bit 1 the lowest.
-    index: usize,
-    start: u64,
+    count: usize,
+    words: Iter<'a, Word>,
+    /// Bits left of the bitmap being read, bit 1 the lowest.
     bits: u64,
-    /// Where the next bitmap's run starts.
+    /// The run of the next bitmap; that of the one being read comes just before it.
     run: u64,
-    rules: std::marker::PhantomData<R>,
+    rules: PhantomData<R>,
 }
 
 impl<'a, R: Rules> Places<'a, R> {
     pub fn new(table: &'a [u8]) -> Places<'a, R> {
-        let words = table.chunks_exact(WORD).enumerate();
-        Places { words, index: 0, start: 0, bits: 0, run: 0, rules: std::marker::PhantomData }
+        let words = words(table).iter();
+        Places { count: words.len(), words, bits: 0, run: 0, rules: PhantomData }
+    }
+
+    /// The index of the word read last.
+    #[inline]
+    fn index(&self) -> usize {
+        self.count - self.words.len() - 1
     }
 }
 
@@ -52,18 +64,18 @@ impl<R: Rules> Iterator for Places<'_, R> {
     #[inline]
     fn next(&mut self) -> Option<(usize, u64)> {
         while self.bits == 0 {
-            let (index, word) = self.words.next()?;
-            let word = u64_at(word, 0);
-            // A run that would wrap follows an even word that is no place of a module: 11 names that word.
+            let word = u64::from_le_bytes(*self.words.next()?);
             if word & 1 == 0 {
                 self.run = R::run_after(word);
-                return Some((index, word));
+                return Some((self.index(), word));
             }
-            (self.index, self.start, self.bits) = (index, self.run, R::bits(word));
+            // No run wraps before 11 has refused the even word that it follows.
+            self.bits = R::bits(word);
             self.run = self.run.wrapping_add(R::RUN_BYTES);
         }
         let bit = self.bits.trailing_zeros();
         self.bits &= self.bits - 1;
-        Some((self.index, self.start.wrapping_add(R::into_run(bit))))
+        let start = self.run.wrapping_sub(R::RUN_BYTES);
+        Some((self.index(), start.wrapping_add(R::into_run(bit))))
     }
 }
