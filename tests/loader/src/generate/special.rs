@@ -75,6 +75,21 @@ fn long_row(r: &mut Random, row: usize, more: &[u64]) -> Module {
     }
 }
 
+/// A place, as many empty bitmaps as a file has room for, and more words; their first index.
+fn longest_row(r: &mut Random, more: &[u64]) -> (Module, u64) {
+    let row = 120_000;
+    let shape = Shape {
+        loads: Some(1),
+        packed: Some(1),
+        packed_words: Some(row + 1 + more.len()),
+        ..Shape::default()
+    };
+    let mut m = Module::shaped(r, &shape);
+    let words = [&m.packed[..1], &vec![1; row], more].concat();
+    assert!(m.put_packed(words));
+    (m, row as u64 + 1)
+}
+
 /// 15 loads, one of which has an align above the others' and above 4,096, and a bias that is a
 /// multiple of it, or of half of it.
 fn one_large_align(r: &mut Random, half: bool) -> Call {
@@ -165,6 +180,16 @@ pub const SPECIALS: &[Special] = &[
     ("1,800 empty bitmaps, and too many places", |r| {
         let m = long_row(r, 1_800, &[u64::MAX; 17]);
         let passed = passing(m.relocations.len(), &m.packed).expect("too many places");
+        (m.call(), Refused(15, passed as u64))
+    }),
+    ("120,000 empty bitmaps, and a place outside", |r| {
+        let (m, at) = longest_row(r, &[1 << 32]);
+        (m.call(), Refused(11, m.relocations.len() as u64 + at))
+    }),
+    ("120,000 empty bitmaps, and too many places", |r| {
+        let (m, at) = longest_row(r, &[u64::MAX; 17]);
+        let passed = passing(m.relocations.len(), &m.packed).expect("too many places");
+        assert!(passed as u64 > at);
         (m.call(), Refused(15, passed as u64))
     }),
     ("1,023 descriptors", |r| (many_globals(r, LAST).call(), Taken)),
