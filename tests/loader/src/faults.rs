@@ -10,13 +10,17 @@ use crate::{load_untagged_by, Refusal, Untagged, ADDRESS_END, PAGE};
 pub struct Fault {
     pub name: &'static str,
     pub loader: &'static (dyn Loader + Sync),
-    pub untagged: fn(&[u8], u64, u64) -> Result<Untagged, Refusal>,
 }
 
-/// The fault of a name, among all of them.
+/// A fault of the plain loader of demand 3.
+pub struct UntaggedFault {
+    pub name: &'static str,
+    pub load: fn(&[u8], u64, u64) -> Result<Untagged, Refusal>,
+}
+
+/// The fault of a name, among those of loads and writes.
 pub fn named(name: &str) -> Option<&'static Fault> {
-    let all = [FAULTS, UNTAGGED_FAULTS, WRITER_FAULTS];
-    all.into_iter().flatten().find(|fault| fault.name == name)
+    FAULTS.iter().chain(WRITER_FAULTS).find(|fault| fault.name == name)
 }
 
 /// A bias by 4,096 and one align.
@@ -29,18 +33,31 @@ fn packed_tag(tag: u64) -> bool {
     (35..=37).contains(&tag)
 }
 
-/// Defines each fault as the rules with the given items put in, and lists them all.
-macro_rules! faults {
-    ($list:ident: $($kind:ident $name:literal { $($item:item)* })*) => {
+/// Rules with the given items put in.
+macro_rules! rules {
+    ($($kind:ident { $($item:item)* })*) => {
         $(
             pub struct $kind;
             impl Rules for $kind { $($item)* }
         )*
-        pub const $list: &[Fault] = &[$(Fault {
-            name: $name,
-            loader: &Under::<$kind>::new(),
-            untagged: load_untagged_by::<$kind>,
-        }),*];
+    };
+}
+
+/// Defines each fault as the rules with the given items put in, and lists them all.
+macro_rules! faults {
+    ($list:ident: $($kind:ident $name:literal { $($item:item)* })*) => {
+        rules! { $($kind { $($item)* })* }
+        pub const $list: &[Fault] =
+            &[$(Fault { name: $name, loader: &Under::<$kind>::new() }),*];
+    };
+}
+
+/// The same for the plain loader of demand 3.
+macro_rules! untagged_faults {
+    ($list:ident: $($kind:ident $name:literal { $($item:item)* })*) => {
+        rules! { $($kind { $($item)* })* }
+        pub const $list: &[UntaggedFault] =
+            &[$(UntaggedFault { name: $name, load: load_untagged_by::<$kind> }),*];
     };
 }
 
@@ -621,7 +638,7 @@ faults! {
 }
 
 // Loads by the plain loader of demand 3 tell these apart.
-faults! {
+untagged_faults! {
     UNTAGGED_FAULTS:
     UntaggedUnknown "the plain loader passes over tags 35 to 37" {
         const UNTAGGED_KNOWS_PACKED: bool = false;
