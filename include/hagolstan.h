@@ -8,8 +8,11 @@
  * The answer of examine and of the load is one 64-bit number:
  *   taken:    globals * 256
  *   refused:  position * 256 + refusal number (1 to 15)
- * so the low byte of an answer is 0 exactly when the call was taken. Checks are made in the order of their numbers,
- * but 15 after 7 and before 8. What a position counts:
+ * so the low byte of an answer is 0 exactly when the call was taken. The answer of the writer of tables has the
+ * same form, with the table's length for the globals and refusals of its own.
+ *
+ * Checks are made in the order of their numbers, but 15 after 7 and before 8; 8 and 9 are one walk over the
+ * descriptors, 10 and 11 one over the relocations. What a position counts:
  *   2          bytes of the file
  *   4, 5       program headers; 5 without a PT_DYNAMIC gives their number
  *   6          dynamic entries; a missing partner gives the first DT_NULL
@@ -20,8 +23,7 @@
  *   14         choices; a wrong number of them gives the number of globals
  *   15         words of the packed table alone; 0 where it is not backed
  *   others     nothing: 0
- * A file of 1,048,576 bytes has up to some 131,000 packed words, so a position may be as high. The answer of the writer of tables has the
- * same form, with the table's length for the globals and refusals of its own.
+ * A file of 1,048,576 bytes has room for some 131,000 packed words, and a position may be as high.
  */
 #ifndef HAGOLSTAN_H
 #define HAGOLSTAN_H

@@ -28,6 +28,12 @@ fn bias_by(align: Option<u64>, bias: u64) -> bool {
     bias.is_multiple_of(PAGE) && bias.is_multiple_of(align.unwrap_or(0).max(1))
 }
 
+/// RELA entries that are not skipped.
+fn not_skipped(relocations: &[u8]) -> usize {
+    let kinds = relocations.chunks_exact(ENTRY).map(|entry| &entry[8..12]);
+    kinds.filter(|&kind| kind != [0; 4]).count()
+}
+
 /// A packed tag.
 fn packed_tag(tag: u64) -> bool {
     (35..=37).contains(&tag)
@@ -488,8 +494,7 @@ faults! {
     }
     SkippedFree "skipped entries do not count beside packed places" {
         fn counted(relocations: &[u8]) -> usize {
-            let kinds = relocations.chunks_exact(ENTRY).map(|entry| &entry[8..12]);
-            kinds.filter(|&kind| kind != [0; 4]).count()
+            not_skipped(relocations)
         }
     }
     EntriesFree "entries do not count beside packed places" {
@@ -513,18 +518,18 @@ faults! {
         }
     }
     PassedAtZero "15 always at 0" {
-        fn passed_at(_: usize, _: usize) -> u64 {
+        fn passed_at(_: &[u8], _: usize) -> u64 {
             0
         }
     }
     PassedNext "15 at the word after" {
-        fn passed_at(index: usize, _: usize) -> u64 {
+        fn passed_at(_: &[u8], index: usize) -> u64 {
             index as u64 + 1
         }
     }
     PassedBehind "15 with the number of entries" {
-        fn passed_at(index: usize, entries: usize) -> u64 {
-            (entries + index) as u64
+        fn passed_at(relocations: &[u8], index: usize) -> u64 {
+            (relocations.len() / ENTRY + index) as u64
         }
     }
     LowBitNames "a bitmap of 64 places" {
@@ -585,13 +590,23 @@ faults! {
         }
     }
     PlaceBare "11 at the bare index of a packed word" {
-        fn place_at(_: usize, index: usize) -> u64 {
+        fn place_at(_: &[u8], index: usize) -> u64 {
             index as u64
         }
     }
+    PlaceSkips "11 counts entries not skipped before a packed word" {
+        fn place_at(relocations: &[u8], index: usize) -> u64 {
+            (not_skipped(relocations) + index) as u64
+        }
+    }
     AddressBare "13 at the bare index of a packed word" {
-        fn address_at(_: usize, index: usize) -> u64 {
+        fn address_at(_: &[u8], index: usize) -> u64 {
             index as u64
+        }
+    }
+    AddressSkips "13 counts entries not skipped before a packed word" {
+        fn address_at(relocations: &[u8], index: usize) -> u64 {
+            (not_skipped(relocations) + index) as u64
         }
     }
     PackedFirst "packed words before RELA entries" {

@@ -1,6 +1,5 @@
 //! Check 15, and the places that packed words name.
 
-use crate::relocations::ENTRY;
 use crate::rules::Rules;
 use crate::{refusal, Refusal};
 use std::marker::PhantomData;
@@ -28,7 +27,7 @@ pub fn check<R: Rules>(table: Option<&[u8]>, relocations: &[u8]) -> Result<(), R
         }
         total += named;
         if total > R::MOST_PLACES {
-            return Err(refusal(15, R::passed_at(index, relocations.len() / ENTRY)));
+            return Err(refusal(15, R::passed_at(relocations, index)));
         }
     }
     Ok(())

@@ -52,11 +52,6 @@ pub struct Tables<'a> {
 }
 
 impl<'a> Tables<'a> {
-    /// The number of RELA entries, skipped ones too.
-    pub fn count(&self) -> usize {
-        self.relocations.len() / ENTRY
-    }
-
     /// The packed places, with the indexes of their words.
     pub fn places<R: Rules>(&self) -> Places<'a, R> {
         Places::new(self.packed)
@@ -120,7 +115,7 @@ impl<'a> Tables<'a> {
         let mut before = Vec::with_capacity(MOST);
         for (index, place) in self.places::<R>() {
             if !self.packed_good::<R>(&before, place) {
-                return Err(refusal(11, R::place_at(self.count(), index)));
+                return Err(refusal(11, R::place_at(self.relocations, index)));
             }
             before.push(place);
         }
@@ -145,7 +140,7 @@ impl<'a> Tables<'a> {
             }
             words += 1;
         }
-        Ok(R::words(words, self.count() as u64) + self.check_packed::<R>()?)
+        Ok(R::words(words, (self.relocations.len() / ENTRY) as u64) + self.check_packed::<R>()?)
     }
 
     /// Check 13.
@@ -167,7 +162,7 @@ impl<'a> Tables<'a> {
         for (index, place) in self.places::<R>() {
             let loaded = self.segments.loaded::<R>(self.file, place);
             if !R::address_fits(R::packed_address(bias, loaded)) {
-                return Err(refusal(13, R::address_at(self.count(), index)));
+                return Err(refusal(13, R::address_at(self.relocations, index)));
             }
         }
         Ok(())

@@ -96,8 +96,8 @@ pub trait Rules {
         }
     }
 
-    /// 15: the position of the word that goes past the most, beside so many RELA entries.
-    fn passed_at(index: usize, _entries: usize) -> u64 {
+    /// 15: the position of the word that goes past the most, beside the RELA table.
+    fn passed_at(_relocations: &[u8], index: usize) -> u64 {
         index as u64
     }
 
@@ -196,14 +196,14 @@ pub trait Rules {
         place_before == place
     }
 
-    /// 11: the position of a packed word, behind so many RELA entries.
-    fn place_at(entries: usize, index: usize) -> u64 {
-        (entries + index) as u64
+    /// 11: the position of a packed word, behind all RELA entries.
+    fn place_at(relocations: &[u8], index: usize) -> u64 {
+        (relocations.len() / ENTRY + index) as u64
     }
 
     /// 13: the same.
-    fn address_at(entries: usize, index: usize) -> u64 {
-        (entries + index) as u64
+    fn address_at(relocations: &[u8], index: usize) -> u64 {
+        (relocations.len() / ENTRY + index) as u64
     }
 
     /// 11 and 13: packed words come after RELA entries.
