@@ -72,8 +72,11 @@ fn tag(address: u128, bias: u64) -> u64 {
     GLOBALS.iter().find(|g| of(g)).map_or(0, |g| u64::from(g.2))
 }
 
-/// The words written, (place, address, tag), or number and position.
-fn by_words(parts: &Parts, bias: u64) -> Result<Vec<(u64, u64, u64)>, (u8, u64)> {
+/// Words written: (place, address, tag).
+type Written = Vec<(u64, u64, u64)>;
+
+/// The words written, or number and position.
+fn by_words(parts: &Parts, bias: u64) -> Result<Written, (u8, u64)> {
     let entries = parts.entries.len() as u64;
     // 15, and the places.
     let (mut run, mut total, mut places) = (None, entries, Vec::new());

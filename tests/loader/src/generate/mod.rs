@@ -69,10 +69,9 @@ fn single(r: &mut Random, damage: &Damage) -> Case {
         let mut module = Module::random(r);
         let Some(expected) = (damage.apply)(&mut module, r) else { continue };
         // The damage may have changed what is loaded at a packed place.
-        if matches!(expected, Expected::Taken | Expected::Refused(14, _)) {
-            if !module.unfit().is_empty() {
-                continue;
-            }
+        let late = matches!(expected, Expected::Taken | Expected::Refused(14, _));
+        if late && !module.unfit().is_empty() {
+            continue;
         }
         return Case { name: label(damage), call: module.call(), expected };
     }
