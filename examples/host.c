@@ -31,10 +31,11 @@ static const struct {
     {"a global's descriptor is cut short, or its number is too long", "descriptor"},
     {"a global lies outside every PT_LOAD, or there are over 1,024", "descriptor"},
     {"the kind or the symbol of a relocation is not allowed", "relocation"},
-    {"the place of a relocation is no multiple of 8, read-only, outside the module or used before", "relocation"},
+    {"the place of a relocation is no multiple of 8, read-only, outside the module or used before", "relocation (RELA entries, then packed words)"},
     {"the lent memory, the tag plane or the bias does not fit the module and its largest align", ""},
-    {"a relocated address is below 0 or at least 2^48", "relocation"},
+    {"a relocated address is below 0 or at least 2^48", "relocation (RELA entries, then packed words)"},
     {"the number of tag choices is not the number of globals, or a choice is bad", "choice, or the number of globals"},
+    {"the packed relocations are not in the file part of one PT_LOAD, begin with a bitmap, or make over 1,024 with the others", "packed word"},
 };
 
 static int refused(uint64_t answer)

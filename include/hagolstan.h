@@ -7,9 +7,23 @@
  *
  * The answer of examine and of the load is one 64-bit number:
  *   taken:    globals * 256
- *   refused:  position * 256 + refusal number (1 to 14)
+ *   refused:  position * 256 + refusal number (1 to 15)
  * so the low byte of an answer is 0 exactly when the call was taken. The answer of the writer of tables has the
  * same form, with the table's length for the globals and refusals of its own.
+ *
+ * Checks are made in the order of their numbers, but 15 after 7 and before 8; 8 and 9 are one walk over the
+ * descriptors, 10 and 11 one over the relocations. What a position counts:
+ *   2          bytes of the file
+ *   4, 5       program headers; 5 without a PT_DYNAMIC gives their number
+ *   6          dynamic entries; a missing partner gives the first DT_NULL
+ *   7          0 the RELA table, 1 the descriptor table
+ *   8, 9       descriptors
+ *   10         RELA entries, skipped ones too
+ *   11, 13     RELA entries, then words of the packed table (DT_RELR): the number of RELA entries plus the word's index
+ *   14         choices; a wrong number of them gives the number of globals
+ *   15         words of the packed table alone; 0 where it is not backed
+ *   others     nothing: 0
+ * A file of 1,048,576 bytes has room for some 131,000 packed words, and a position may be as high.
  */
 #ifndef HAGOLSTAN_H
 #define HAGOLSTAN_H
@@ -21,7 +35,7 @@
 extern "C" {
 #endif
 
-/* Examines a module file: checks 1 to 11. Reads the file only. */
+/* Examines a module file: checks 1 to 11 and 15. Reads the file only. */
 uint64_t hagolstan_examine(const uint8_t *file, size_t file_length);
 
 /* The facts of a module file that hagolstan_examine takes, in one number; 0 where it refuses the file.
@@ -30,12 +44,12 @@ uint64_t hagolstan_examine(const uint8_t *file, size_t file_length);
  *   bits 4 to 5     heap
  *   bits 6 to 7     stack
  *   bits 8 to 24    number of globals
- *   bits 25 to 41   words relocated
+ *   bits 25 to 41   words relocated: RELA entries not skipped, and packed places
  *   bits 42 to 58   kept for a later count
  * Every other bit, and the kept ones today, are 0. HAGOLSTAN_MODE and the macros after it take the number apart. */
 uint64_t hagolstan_facts(const uint8_t *file, size_t file_length);
 
-/* Loads a module: checks 1 to 14, and only then writes.
+/* Loads a module: checks 1 to 15, and only then writes.
  *   file      the module, an ELF64 shared object, at most 1,048,576 bytes
  *   bias      the address at which memory begins at run time, a multiple of 4,096 and of the largest align of
  *             any PT_LOAD (0 counts as 1). Only the number is asked: the buffer that is lent may stand

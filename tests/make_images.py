@@ -2,14 +2,14 @@
 """make_images.py DIR: writes images NAME.img with what examine_image must write of each, NAME.out, into DIR.
 make_images.py --sheet: writes the bench sheet's image to standard output.
 
-What is expected stands beside each image, by document 01; nothing here reads an image.
+What is expected stands beside each image, by document 01 and request 3; nothing here reads an image.
 """
 import os
 import struct
 import sys
 
 # Where the parts of an image stand, in the file and in memory.
-HEADERS, DYNAMIC, DESCRIPTORS, PLACE, SYMBOLS, RELA = 0x40, 0x180, 0x280, 0x2C0, 0x300, 0x400
+HEADERS, DYNAMIC, DESCRIPTORS, PLACE, SYMBOLS, PACKED, RELA = 0x40, 0x180, 0x280, 0x2C0, 0x300, 0x380, 0x400
 
 R, RW = 4, 6
 ABS64, GLOB_DAT, RELATIVE = 257, 1025, 1027
@@ -51,6 +51,7 @@ def image(
     descriptors=SHEET,
     relocations=(),
     symbols=(),
+    packed=(),
     words=(),
     entries=None,
     extra=(),
@@ -71,12 +72,15 @@ def image(
             entries += [(GLOBALS, DESCRIPTORS), (GLOBALSSZ, len(descriptors))]
         if symbols:
             entries += [(6, SYMBOLS), (11, 24)]
+        if packed:
+            entries += [(36, PACKED), (35, 8 * len(packed)), (37, 8)]
         entries += list(extra) + [(0, 0)]
     table = b"".join(struct.pack("<QQ", t, v) for t, v in entries)
     parts = [
         (DYNAMIC, table),
         (DESCRIPTORS, descriptors or b""),
         (SYMBOLS, b"".join(symbols)),
+        (PACKED, struct.pack(f"<{len(packed)}Q", *packed)),
         (RELA, b"".join(relocations)),
     ]
     parts += [(place, struct.pack("<Q", word % 2**64)) for place, word in words]
@@ -162,7 +166,8 @@ def cases():
     for name, entry in (
         ("rel", (17, 0)),
         ("jmprel", (23, 0)),
-        ("relr", (36, 0)),
+        ("relr_bytes", (35, 12)),
+        ("relr_size", (37, 24)),
         ("symbol_size", (11, 16)),
         ("rela_bytes", (8, 25)),
         ("rela_size", (9, 0)),
@@ -175,6 +180,9 @@ def cases():
     yield "entry_lowest", image(entries=[(MODE, 0), (MODE, 0), (17, 0), (0, 0)]), (6, 1)
     yield "partner_symbols", image(entries=[(6, 0), (0, 0)]), (6, 1)
     yield "partner_rela", image(entries=[(7, 0), (9, 24), (0, 0), (8, 0)]), (6, 2)
+    yield "partner_relr", image(entries=[(36, 0), (35, 0), (0, 0), (37, 8)]), (6, 2)
+    yield "partner_relr_size", image(entries=[(37, 8), (1, 0), (0, 0)]), (6, 2)
+    yield "entry_relr_repeated", image(entries=[(36, 0), (36, 0), (0, 0)]), (6, 1)
     yield "partner_globals", image(entries=[(1, 0), (1, 0), (GLOBALSSZ, 0), (0, 0)]), (6, 3)
     # 7: the relocation table; then the descriptor table
     yield "rela_not_backed", image(entries=[(7, 0x1000), (8, 24), (9, 24), (0, 0)]), (7, 0)
@@ -183,6 +191,14 @@ def cases():
     yield "rela_too_many", image(relocations=many, memory=0x9000), (7, 0)
     yield "descriptors_not_backed", image(entries=[(GLOBALS, 0x3FF), (GLOBALSSZ, 2), (0, 0)]), (7, 1)
     yield "both_not_backed", image(entries=[(7, 0x1000), (8, 24), (9, 24), (GLOBALS, 0x1000), (GLOBALSSZ, 1), (0, 0)]), (7, 0)
+    # 15: the packed table
+    yield "packed_no_bytes", image(entries=[(36, 2**63), (35, 0), (37, 8), (0, 0)]), []
+    yield "packed_not_backed", image(entries=[(36, 0x3FC), (35, 8), (37, 8), (0, 0)]), (15, 0)
+    yield "packed_odd_first", image(packed=[1, PLACE]), (15, 0)
+    yield "packed_too_many", image(packed=[PLACE] + [1] * 3 + [2**64 - 1] * 10, relocations=[rela(0, 0)] * 600, memory=0x5000), (15, 10)
+    yield "packed_before_descriptors", image(packed=[1], descriptors=b"\x00"), (15, 0)
+    tables = [(36, 0x380), (35, 8), (37, 8), (GLOBALS, 0x1000), (GLOBALSSZ, 1), (0, 0)]
+    yield "packed_after_seven", image(entries=tables, words=[(0x380, 1)]), (7, 1)
     # 8 and 9: one walk over the descriptors
     yield "descriptor_cut", image(descriptors=b"\x00"), (8, 0)
     yield "descriptor_cut_second", image(descriptors=SHEET + b"\x08"), (8, 3)
@@ -221,6 +237,17 @@ def cases():
         ("wraps", 2**64 - 8),
     ):
         yield "place_" + name, image(relocations=[ok, rela(PLACE, 0), rela(place, RELATIVE), rela(PLACE, 1)]), (11, 2)
+    yield "packed", image(packed=[PLACE, 7, 1, 0x1000, 2**64 - 1]), SHEET_GLOBALS
+    kept = [rela(PLACE, RELATIVE), rela(PLACE + 8, 0)]
+    for name, words, at in (
+        ("uneven", [PLACE + 16, PLACE + 20], 1),
+        ("repeated", [PLACE + 8, 0x1000, PLACE], 2),
+        ("repeated_packed", [PLACE + 8, 3, 1, PLACE + 16], 3),
+        ("outside", [0x1FF8, 1, 1, 3], 3),
+        ("wraps", [2**64 - 8, 3], 0),
+    ):
+        yield "packed_" + name, image(relocations=kept, packed=words), (11, 2 + at)
+    yield "packed_after_rela", image(relocations=kept + [rela(1, RELATIVE)], packed=[2]), (11, 2)
     flags = lambda n, d: [load(0, n, 0x1000, flags=R), load(0x1000, 0, 0x1000), dynamic(d)]
     yield "place_read_only", image(relocations=[rela(0x1000, RELATIVE), rela(0xFF8, RELATIVE)], headers=flags), (11, 1)
 

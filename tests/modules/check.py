@@ -7,7 +7,8 @@ tables and writes them again, and compares with the linker's own bytes.
 READELF is the program to call (GNU or LLVM), SCRATCH a folder for the dumps, FOLDER has the modules that
 tests/modules/build wrote, and PROGRAMS has load_file and write_file, built from programs/, which EMULATOR... runs
 where it is given. What to expect comes from readelf's lists of segments, dynamic entries, relocations and symbols, and
-from the module's bytes; descriptors are decoded here, after the Memtag ABI. Nothing of the loader's own code is used.
+from the module's bytes; descriptors are decoded here, after the Memtag ABI, and so are packed words, to know which of them
+names a place that readelf lists. Nothing of the loader's own code is used.
 """
 import os
 import re
@@ -17,6 +18,7 @@ import sys
 MASK = (1 << 64) - 1
 LIMIT = 1 << 20
 ABS64, GLOB_DAT, RELATIVE = 257, 1025, 1027
+RELRSZ, RELR, RELRENT, MOST = 35, 36, 37, 1024
 MODE, HEAP, STACK, GLOBALS, GLOBALSSZ = 0x70000009, 0x7000000B, 0x7000000C, 0x7000000D, 0x7000000F
 PAGE = 4096
 # Multiples of the largest align of every module here.
@@ -40,12 +42,18 @@ class Module:
         self.name = os.path.basename(os.path.dirname(path)) + "/" + os.path.basename(path)[:-3]
         self.bytes = open(path, "rb").read()
         run = subprocess.run([readelf, "-W", "-l", "-d", "-r", "-s", path], capture_output=True, text=True)
-        self.headers, self.dynamic, self.words = [], [], []
+        self.headers, self.dynamic, self.words, packed = [], [], [], []
         self.dynsym, self.symtab = {}, {}
-        table = None
+        table, relr = None, False
         for line in run.stdout.splitlines():
             part = line.split()
-            if "Symbol table" in line:
+            place = re.match(r"(?:[0-9a-f]{4}:\s+[0-9a-f]{16})?\s*([0-9a-f]{16})(\s|$)", line) if relr else None
+            if line.startswith("Relocation section"):
+                relr = "'.relr.dyn'" in line
+            elif place:
+                packed.append(int(place[1], 16))
+            elif "Symbol table" in line:
+                relr = False
                 table = self.dynsym if ".dynsym" in line else self.symtab
             elif re.match(r"\s+[A-Z_]+\s+0x[0-9a-f]{6} 0x[0-9a-f]{16} ", line):
                 offset, vaddr, _, filesz, memsz = (int(x, 16) for x in part[1:6])
@@ -66,10 +74,23 @@ class Module:
         # The relocation table of DT_RELA alone: readelf lists the PLT's after it.
         size = self.tag(8)
         self.rela = self.words[: (size or 0) // 24]
+        # (index of the word, place) of DT_RELR; readelf lists the places of Android's own table too.
+        self.packed = list(unpacked(self.relr())) if self.tag(RELR) is not None else []
+        if self.packed:
+            expect(packed == [place for _, place in self.packed], f"{self.name}: readelf lists other packed places")
 
     def tag(self, number):
         values = [v for t, v in self.dynamic if t == number]
         return values[0] if values else None
+
+    def relr(self):
+        """The words of the packed table."""
+        at, size = self.offset(self.tag(RELR)), self.tag(RELRSZ)
+        return [int.from_bytes(self.bytes[i:i + 8], "little") for i in range(at, at + size, 8)]
+
+    def packed_at(self, test):
+        """The position of the first packed place that is so."""
+        return len(self.rela) + next(index for index, place in self.packed if test(place))
 
     def image(self, length):
         """Memory before relocation."""
@@ -109,6 +130,17 @@ class Module:
         return found
 
 
+def unpacked(words):
+    """(index, place) of each place that packed words name."""
+    for index, word in enumerate(words):
+        if word & 1 == 0:
+            yield index, word
+            run = word + 8
+        else:
+            yield from ((index, run + 8 * (bit - 1)) for bit in range(1, 64) if word >> bit & 1)
+            run += 504
+
+
 def signed(word):
     """LLVM's readelf writes some negative addends as 64-bit words."""
     return word - (1 << 64) if word >> 63 == 1 else word
@@ -140,10 +172,17 @@ def expected(m, bias, length, choices):
             weak = bind == "WEAK" and section == "UND"
             address = addend if weak else bias + value + addend
             source = None if weak else bias + value
-        inside = source is not None and bias <= source < bias + length
-        word = address | (plane[(source - bias) // 16] if inside else 0) << 56
-        memory[place:place + 8] = word.to_bytes(8, "little")
+        put_word(memory, place, address, source, bias, plane)
+    for _, place in m.packed:
+        address = bias + int.from_bytes(raw[place:place + 8], "little")
+        put_word(memory, place, address, address, bias, plane)
     return bytes(memory), bytes(plane)
+
+
+def put_word(memory, place, address, source, bias, plane):
+    inside = source is not None and bias <= source < bias + 16 * len(plane)
+    word = address | (plane[(source - bias) // 16] if inside else 0) << 56
+    memory[place:place + 8] = word.to_bytes(8, "little")
 
 
 class Loader:
@@ -200,7 +239,7 @@ def facts_of(m):
     """The number of hagolstan_facts, by the layout in the header: 1, mode, heap, stack, globals, words."""
     switch = lambda v: 0 if v is None else v + 1
     return (1 + (switch(m.tag(MODE)) << 2) + (switch(m.tag(HEAP)) << 4) + (switch(m.tag(STACK)) << 6)
-            + (len(m.globals()) << 8) + (sum(1 for r in m.rela if r[1]) << 25))
+            + (len(m.globals()) << 8) + (sum(1 for r in m.rela if r[1]) + len(m.packed) << 25))
 
 
 def choose(count):
@@ -215,17 +254,25 @@ POINTERS = {
     "table_inside": ("table", 312), "table_end": ("table", 320), "before": ("table", -8),
     "absent": (None, 0), "absent_far": (None, 16), "ends": ("readings", 32),
 }
+PACKED = {
+    "limits_last": ("limits", 12), "last": ("back", 0), "dense": ("limits", 0), "level_end": ("level", 4), "absent": (None, 0),
+}
+UNTAGGED = {"values_end": ("values", 16), "shared_at": ("shared_value", 0)}
 MEANT = {
     "pointers": POINTERS, "pointers_norelro": POINTERS, "pointers_symbolic": POINTERS,
     "nine_hour": {"log_at": ("lines", 0), "log_end": ("lines", 128), "age_at": ("age", 0), "temperature_at": ("temperature", 0)},
     "far": {"far_before": ("table", -0x100000)},
     "asynchronous": {"level_at": ("level", 0)},
     "aligned": {"table_at": ("table", 0), "table_end": ("table", 256), "level_at": ("level", 0)},
-    "untagged": {"values_end": ("values", 16), "shared_at": ("shared_value", 0)},
+    "untagged": UNTAGGED,
     "text_pic": {"value_at": ("value", 0)},
+    "packed": PACKED, "packed_z": PACKED, "packed_pointers": POINTERS, "packed_untagged": UNTAGGED, "packed_clang": UNTAGGED,
+    "unpacked_clang": UNTAGGED, "packed_seen": {"values_at": ("values", 0)}, "packed_far": {},
     "empty": {}, "called_symbolic": {}, "called_hidden": {}, "globals_untagged": {}, "copy_own": {}, "unseen": {},
-    "pointers_stripped": {},
+    "pointers_stripped": {}, "unseen_clang": {},
 }
+# Modules of which a linker packed words, and how many of them at least.
+WITH_PACKED = {"packed": 200, "packed_z": 200, "packed_pointers": 13, "packed_untagged": 1, "packed_clang": 1, "packed_seen": 1, "packed_far": 1}
 
 
 def check_meaning(m, memory, bias, choices):
@@ -245,12 +292,16 @@ def check_taken(m, loader):
         expect(sizes.get(address) == size, f"{m.name}: no symbol has the address and size of the descriptor {address:#x}, {size}")
     least = (m.end() + 15) // 16 * 16
     choices = choose(len(m.globals()))
-    far = m.name.endswith("/far")
+    far = m.name.split("/")[1]
     for bias in BIASES:
         for length in (least, least + 4096):
             what = f"{m.name} at {bias:#x}"
-            if far and bias == 0:
+            if far == "far" and bias == 0:
                 loader.refusal(what, m.path, 0, length, length // 16, choices, 13, 0, len(choices) * 256)
+                continue
+            if far == "packed_far":
+                # What is loaded there is a number below 0, which is read as 2^64 and more below.
+                loader.refusal(what, m.path, bias, length, length // 16, choices, 13, m.packed_at(lambda place: True), len(choices) * 256)
                 continue
             answer, examine, facts, memory, plane = loader.load(m.path, bias, length, length // 16, choices)
             expect(answer == len(choices) * 256, f"{what}: answer {answer & 255} at {answer >> 8}")
@@ -345,6 +396,41 @@ def check_edits(m, loader, scratch):
         loader.refusal(f"{m.name}, {what}", path, BIASES[0], 0x80000, 0x8000, [], number, position)
 
 
+def check_packed_edits(m, loader, scratch):
+    """The packed module with one thing spoiled."""
+    entry = lambda tag: first(m.dynamic, lambda d: d[0] == tag)
+    put = lambda at, *words, data=m.bytes: data[:at] + b"".join(w.to_bytes(8, "little") for w in words) + data[at + 8 * len(words):]
+    dynamic = next(h for h in m.headers if h[0] == "DYNAMIC")[1]
+    value_of = lambda tag: dynamic + 16 * entry(tag) + 8
+    table, words, rela, taken = m.offset(m.tag(RELR)), m.relr(), len(m.rela), len(m.globals()) * 256
+    last = table + 8 * (len(words) - 1)
+    index, place = m.packed[130]
+    # Room for a longer table; the entry of its bytes stands behind that of its address.
+    space = m.symtab["space"][0]
+    expect(entry(RELRSZ) == entry(RELR) + 1, f"{m.name}: the packed entries stand apart")
+    for what, data, number, position, examined in [
+        ("packed bytes 4 more", put(value_of(RELRSZ), m.tag(RELRSZ) + 4), 6, entry(RELRSZ), None),
+        ("packed words of 16 bytes", put(value_of(RELRENT), 16), 6, entry(RELRENT), None),
+        ("no packed entry size", put(value_of(RELRENT) - 8, 0x6FFFE003), 6, first(m.dynamic, lambda d: d[0] == 0), None),
+        ("packed words outside", put(value_of(RELR), 0xF0000), 15, 0, None),
+        ("a bitmap first", put(table, words[0] | 1), 15, 0, None),
+        ("full bitmaps", put(m.offset(space), words[0], *[MASK] * 30, data=put(value_of(RELR), space, RELRSZ, 8 * 31)), 15,
+         first(range(31), lambda i: rela + 1 + 63 * i > MOST), None),
+        ("a place at 4 modulo 8", put(last, words[-1] + 4), 11, rela + len(words) - 1, None),
+        ("a packed place in read-only memory", put(last, 0x100), 11, rela + len(words) - 1, None),
+        ("a RELA place packed", put(last, m.rela[1][0]), 11, rela + len(words) - 1, None),
+        ("a packed place twice", put(last, place), 11, rela + len(words) - 1, None),
+        ("the packed place of a RELA entry twice", put(m.offset(m.tag(7)), m.packed[0][1]), 11, rela, None),
+        ("loaded bytes of 2^48", put(m.offset(place), 1 << 48), 13, rela + index, taken),
+        ("loaded bytes of -8", put(m.offset(place), MASK - 7), 13, rela + index, taken),
+    ]:
+        path = os.path.join(scratch, "edited.so")
+        with open(path, "wb") as out:
+            out.write(data)
+        choices = choose(len(m.globals())) if examined is not None else []
+        loader.refusal(f"{m.name}, {what}", path, BIASES[0], 0x80000, 0x8000, choices, number, position, examined)
+
+
 # Refused modules: number, and where to find the position in readelf's lists.
 REFUSED = {
     "refused_long": (1, lambda m: 0),
@@ -357,12 +443,13 @@ REFUSED = {
     "refused_base": (4, lambda m: first(m.headers, lambda h: h[0] == "LOAD" and h[2] + h[4] > LIMIT)),
     "refused_script": (5, lambda m: len(m.headers)),
     "refused_rel": (6, lambda m: first(m.dynamic, lambda d: d[0] == 17)),
-    "refused_packed": (6, lambda m: first(m.dynamic, lambda d: d[0] == 0)),
+    "refused_android": (6, lambda m: first(m.dynamic, lambda d: d[0] == 0)),
+    "refused_android_relr": (6, lambda m: first(m.dynamic, lambda d: d[0] == 0)),
     "refused_copy": (6, lambda m: first(m.dynamic, lambda d: d[0] == 23)),
     "refused_call": (6, lambda m: first(m.dynamic, lambda d: d[0] == 23)),
     "refused_ifunc": (6, lambda m: first(m.dynamic, lambda d: d[0] == 23)),
-    "refused_relr": (6, lambda m: first(m.dynamic, lambda d: d[0] == 36)),
     "refused_many_words": (7, lambda m: 0),
+    "refused_relr_many": (15, lambda m: m.packed[MOST - len(m.rela)][0]),
     "refused_many_globals": (9, lambda m: 1024),
     "refused_tls": (10, lambda m: first(m.rela, lambda r: r[4] == "R_AARCH64_TLSDESC")),
     "refused_ifunc_symbolic": (10, lambda m: first(m.rela, lambda r: r[4].startswith("R_AARCH64_IRELATIV"))),
@@ -370,6 +457,8 @@ REFUSED = {
     "refused_undefined": (10, lambda m: first(m.rela, lambda r: m.dynsym[r[2]][4] == "UND")),
     "refused_place": (11, lambda m: first(m.rela, lambda r: r[0] % 8)),
     "refused_text": (11, lambda m: first(m.rela, lambda r: any(h[2] <= r[0] < h[2] + h[4] and not h[5] for h in m.loads))),
+    "refused_relr_place": (11, lambda m: m.packed_at(lambda place: place % 8)),
+    "refused_relr_text": (11, lambda m: m.packed_at(lambda place: any(h[2] <= place < h[2] + h[4] and not h[5] for h in m.loads))),
 }
 
 
@@ -381,6 +470,16 @@ def check_nine_hour(m, loader):
     word = int.from_bytes(memory[pointer:pointer + 8], "little")
     expect(word & (1 << 56) - 1 == BIASES[0] + age, f"{m.name}: the counter does not stand behind the log")
     expect(word >> 56 == plane[lines // 16] != plane[age // 16], f"{m.name}: the log's end carries tag {word >> 56}")
+
+
+def check_packed_end(m, loader):
+    """A packed word has the tag of the granule that it points at: the end of data without tags may be a tagged global."""
+    length, choices = (m.end() + 15) // 16 * 16, choose(len(m.globals()))
+    _, _, _, memory, plane = loader.load(m.path, BIASES[0], length, length // 16, choices)
+    place, end = m.symtab["limits_end"][0], m.symtab["limits"][0] + 16
+    word = int.from_bytes(memory[place:place + 8], "little")
+    expect(any(place == packed for _, packed in m.packed), f"{m.name}: limits_end is not packed")
+    expect(word == BIASES[0] + end | plane[end // 16] << 56 and word >> 56, f"{m.name}: limits_end is {word:#x}")
 
 
 def main():
@@ -399,14 +498,21 @@ def main():
             loader.refusal(m.name, m.path, BIASES[0], 0x80000, 0x8000, [], number, position(m))
         else:
             check_taken(m, loader)
-            check_biases(m, loader)
+            if name != "packed_far":
+                check_biases(m, loader)
             units.add(m.unit())
+            expect(len(m.packed) >= WITH_PACKED.get(name, 0), f"{m.name}: {len(m.packed)} packed places")
+            expect(name in WITH_PACKED or not m.packed, f"{m.name}: {len(m.packed)} packed places, none was expected")
         if name == "aligned":
             expect(m.unit() == 0x20000 > m.loads[-1][6], f"{m.name}: the aligns are {[h[6] for h in m.loads]}")
         if name == "pointers":
             check_late_refusals(m, loader)
         if m.name == "4096/pointers":
             check_edits(m, loader, scratch)
+        if name == "packed":
+            check_packed_end(m, loader)
+        if m.name == "4096/packed":
+            check_packed_edits(m, loader, scratch)
         if name == "nine_hour":
             check_nine_hour(m, loader)
         if m.name == "4096/nine_hour":

@@ -28,8 +28,48 @@ pub fn bare(size: usize) -> Call {
     image_of(size, 0, (size / 256).min(MOST))
 }
 
-/// One writable PT_LOAD over the whole file, with relocations and globals spread over all of it.
+/// The same with 1,000 packed places, one after the other in full bitmaps, in place of RELA entries.
+pub fn packed(size: usize) -> Call {
+    let globals = (size / 256).min(MOST);
+    let mut r = Random::new(size as u64);
+    let first = size / 2;
+    let loaded: Vec<u64> =
+        (0..1_000).map(|_| (r.index(globals) * (size / globals)) as u64 + r.below(97)).collect();
+    let mut call = image_with(size, 0, globals, dense(first as u64, loaded.len()));
+    put(&mut call.file, first, &loaded);
+    call
+}
+
+/// The same with a packed place and so many empty bitmaps after it.
+pub fn empty_bitmaps(size: usize, count: usize) -> Call {
+    let first = size / 2;
+    let words = [vec![first as u64], vec![1; count]].concat();
+    let mut call = image_with(size, 0, (size / 256).min(MOST), words);
+    put(&mut call.file, first, &[0]);
+    call
+}
+
+/// The packed words of so many places, one after the other.
+pub(crate) fn dense(first: u64, places: usize) -> Vec<u64> {
+    if places == 0 {
+        return Vec::new();
+    }
+    let mut words = vec![first];
+    let mut left = places - 1;
+    while left > 0 {
+        let bits = left.min(63);
+        words.push(u64::MAX >> (63 - bits));
+        left -= bits;
+    }
+    words
+}
+
 fn image_of(size: usize, relocations: usize, globals: usize) -> Call {
+    image_with(size, relocations, globals, Vec::new())
+}
+
+/// One writable PT_LOAD over the whole file, with relocations and globals spread over all of it.
+fn image_with(size: usize, relocations: usize, globals: usize, packed: Vec<u64>) -> Call {
     let mut r = Random::new(size as u64);
     let mut file = r.bytes(size);
     let (place_step, global_step) = (size / relocations.max(1), size / globals);
@@ -60,7 +100,7 @@ fn image_of(size: usize, relocations: usize, globals: usize) -> Call {
         [place, info, addend]
     });
     let relocations = relocations.collect();
-    assemble(&mut file, 0, 64 + 2 * 56, &Tables { symbols, relocations, descriptors });
+    assemble(&mut file, 0, 64 + 2 * 56, &Tables { symbols, relocations, packed, descriptors });
     call(file, globals)
 }
 
@@ -68,17 +108,21 @@ fn image_of(size: usize, relocations: usize, globals: usize) -> Call {
 pub(crate) struct Tables {
     pub symbols: Vec<[u64; 3]>,
     pub relocations: Vec<[u64; 3]>,
+    /// Where it is empty there are no packed tags.
+    pub packed: Vec<u64>,
     pub descriptors: Vec<u8>,
 }
 
 /// Puts headers and tables into a file: some writable PT_LOADs of a page each, one from there to the
 /// file's end, and a PT_DYNAMIC with the tables after it.
 pub(crate) fn assemble(file: &mut [u8], pages: usize, dynamic_at: usize, tables: &Tables) {
-    let entries = 11;
+    let entries = if tables.packed.is_empty() { 11 } else { 14 };
     let symbols_at = dynamic_at + 16 * entries;
     let relocations_at = symbols_at + 24 * tables.symbols.len();
-    let descriptors_at = relocations_at + 24 * tables.relocations.len();
-    let dynamic = [
+    let packed_at = relocations_at + 24 * tables.relocations.len();
+    let packed_bytes = 8 * tables.packed.len();
+    let descriptors_at = packed_at + packed_bytes;
+    let mut dynamic = vec![
         (6, symbols_at as u64),
         (11, 24),
         (7, relocations_at as u64),
@@ -89,8 +133,12 @@ pub(crate) fn assemble(file: &mut [u8], pages: usize, dynamic_at: usize, tables:
         (0x7000_000c, 1),
         (0x7000_000d, descriptors_at as u64),
         (0x7000_000f, tables.descriptors.len() as u64),
-        (0, 0),
     ];
+    if packed_bytes > 0 {
+        dynamic.extend([(36, packed_at as u64), (35, packed_bytes as u64), (37, 8)]);
+    }
+    dynamic.push((0, 0));
+    assert_eq!(dynamic.len(), entries);
     file[..7].copy_from_slice(&[0x7f, 0x45, 0x4c, 0x46, 2, 1, 1]);
     put(file, 16, &[3 | 183 << 16 | 1 << 32, 0, 64, 0, 0]);
     put(file, 48, &[56 << 48, pages as u64 + 2]);
@@ -106,6 +154,7 @@ pub(crate) fn assemble(file: &mut [u8], pages: usize, dynamic_at: usize, tables:
     }
     put(file, symbols_at, tables.symbols.as_flattened());
     put(file, relocations_at, tables.relocations.as_flattened());
+    put(file, packed_at, &tables.packed);
     file[descriptors_at..][..tables.descriptors.len()].copy_from_slice(&tables.descriptors);
 }
 

@@ -144,7 +144,7 @@ pub struct Settings {
 /// Counts of a run, by refusal number; 0 is taken.
 #[derive(Default)]
 pub struct Counts {
-    pub answers: [u64; 15],
+    pub answers: [u64; 16],
     pub write_answers: [u64; 7],
     pub calls: u64,
     pub steps: u64,

@@ -4,7 +4,7 @@
 //! A row is a sum of counts over calls that differ in one thing alone, so all else cancels.
 
 use crate::answers::{Call, Listing, Loader};
-use crate::bench::{assemble, call, listing, Tables};
+use crate::bench::{assemble, call, dense, listing, Tables};
 use crate::generate::module::uleb;
 
 const SIZE: usize = 256 << 10;
@@ -34,10 +34,20 @@ struct Shape {
     /// RELATIVE, or ABS64 with a symbol.
     symbols: bool,
     relocations: usize,
+    /// Packed places, one after the other in bitmaps, and empty bitmaps behind them.
+    packed: usize,
+    bitmaps: usize,
 }
 
-const EMPTY: Shape =
-    Shape { passed: 0, form: Form::Bytes(1), globals: 0, symbols: false, relocations: 0 };
+const EMPTY: Shape = Shape {
+    passed: 0,
+    form: Form::Bytes(1),
+    globals: 0,
+    symbols: false,
+    relocations: 0,
+    packed: 0,
+    bitmaps: 0,
+};
 
 fn descriptor(form: Form, distance: u64) -> Vec<u8> {
     match form {
@@ -64,7 +74,12 @@ fn image(shape: Shape) -> Call {
         [(PLACES + 16 * i) as u64, info, addend]
     });
     let relocations = relocations.collect();
-    assemble(&mut file, shape.passed, TABLES, &Tables { symbols, relocations, descriptors });
+    for i in 0..shape.packed {
+        file[PLACES + 8 * i..][..8].copy_from_slice(&target(i % MANY).to_le_bytes());
+    }
+    let packed = [dense(PLACES as u64, shape.packed), vec![1; shape.bitmaps]].concat();
+    let tables = Tables { symbols, relocations, packed, descriptors };
+    assemble(&mut file, shape.passed, TABLES, &tables);
     call(file, shape.globals)
 }
 
@@ -157,6 +172,18 @@ fn rows() -> Vec<Row> {
         row(&format!("{name}: the load beyond examine"), 512, beyond(small, large));
     }
 
+    let packed = |from, to| [from, to].map(|packed| Shape { globals: MANY, packed, ..EMPTY });
+    for (from, to) in [(16, 32), (512, 1_024)] {
+        let [small, large] = packed(from, to);
+        let name = format!("a packed place, tables of {from} and {to}: examine");
+        row(&name, to - from, more(Examine, small, large));
+    }
+    let [small, large] = packed(512, 1_024);
+    row("a packed place: the load beyond examine", 512, beyond(small, large));
+    let [small, large] = [64, 2_112].map(|bitmaps| Shape { packed: 1, bitmaps, ..EMPTY });
+    row("an empty bitmap word: examine", 2_048, more(Examine, small, large));
+    row("an empty bitmap word: the load beyond examine", 2_048, beyond(small, large));
+
     let passing = |small: Shape, large: Shape| {
         let behind = |shape| Shape { passed: PASSED, ..shape };
         less(more(Examine, behind(small), behind(large)), more(Examine, small, large))
@@ -169,6 +196,8 @@ fn rows() -> Vec<Row> {
     let both = passing(small, large);
     row("a PT_LOAD passed over, a symbol's lookup", PASSED * 512, less(both, places.clone()));
     row("a PT_LOAD passed over, a place's lookup", PASSED * 512, places);
+    let [small, large] = packed(512, 1_024);
+    row("a PT_LOAD passed over, a packed place's lookup", PASSED * 512, passing(small, large));
     let loads = beyond(EMPTY, Shape { passed: PASSED, ..EMPTY });
     row("a PT_LOAD: the load beyond examine", PASSED, loads);
     row("the rest of examine, once", 1, vec![(1, Examine, EMPTY)]);
@@ -243,8 +272,8 @@ pub fn table(counts: &[i64]) -> Result<String, String> {
     }
     let mut text = format!(
         "Instructions an item, from two tables that differ in length; memset, memcpy and memmove are left out.\n\
-         Where no tables are named they have {FEW} and {MANY} descriptors, or 512 and 1024 relocations. One\n\
-         PT_LOAD holds all, and {PASSED} more come before it where some are passed over.\n\n\
+         Where no tables are named they have {FEW} and {MANY} descriptors, or 512 and 1024 relocations or\n\
+         packed places. One PT_LOAD holds all, and {PASSED} more come before it where some are passed over.\n\n\
          | Item | archive | Rust |\n|---|---|---|\n"
     );
     let mut pairs = counts.chunks_exact(2);

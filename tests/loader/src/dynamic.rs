@@ -2,8 +2,8 @@
 
 use crate::bytes::u64_at;
 use crate::headers::{headers, Header, Segments, PT_DYNAMIC};
-use crate::rules::{Right, Rules};
-use crate::{refusal, Mode, Refusal, Switch};
+use crate::rules::Rules;
+use crate::{packed, refusal, Mode, Refusal, Switch};
 
 const ENTRY: usize = 16;
 const RELA_BYTES: u64 = 24;
@@ -22,28 +22,33 @@ const fn known(tag: u64, group: u8, allowed: fn(u64) -> bool) -> Known {
 const SYMTAB: usize = 0;
 const RELA: usize = 2;
 const RELASZ: usize = 3;
-const MODE: usize = 5;
-const HEAP: usize = 6;
-const STACK: usize = 7;
-const GLOBALS: usize = 8;
-const GLOBALSSZ: usize = 9;
+const RELR: usize = 5;
+const RELRSZ: usize = 6;
+const MODE: usize = 8;
+const HEAP: usize = 9;
+const STACK: usize = 10;
+const GLOBALS: usize = 11;
+const GLOBALSSZ: usize = 12;
 
 /// The memtag tags are the last five.
-const KNOWN: [Known; 10] = [
+const KNOWN: [Known; 13] = [
     known(6, 0, |_| true),
     known(11, 0, |v| v == 24),
     known(7, 1, |_| true),
     known(8, 1, |v| v % 24 == 0),
     known(9, 1, |v| v == 24),
-    known(0x7000_0009, 2, |v| v <= 1),
-    known(0x7000_000b, 3, |v| v <= 1),
-    known(0x7000_000c, 4, |v| v <= 1),
-    known(0x7000_000d, 5, |_| true),
-    known(0x7000_000f, 5, |_| true),
+    known(36, 2, |_| true),
+    known(35, 2, |v| v % 8 == 0),
+    known(37, 2, |v| v == 8),
+    known(0x7000_0009, 3, |v| v <= 1),
+    known(0x7000_000b, 4, |v| v <= 1),
+    known(0x7000_000c, 5, |v| v <= 1),
+    known(0x7000_000d, 6, |_| true),
+    known(0x7000_000f, 6, |_| true),
 ];
 
-/// REL, JMPREL and RELR.
-const REFUSED: [u64; 3] = [17, 23, 36];
+/// REL and JMPREL.
+const REFUSED: [u64; 2] = [17, 23];
 
 type Values = [Option<u64>; KNOWN.len()];
 
@@ -54,6 +59,9 @@ pub struct Dynamic<'a> {
     pub stack: Switch,
     pub symbols: Option<u64>,
     pub relocations: &'a [u8],
+    /// The packed table, none where it is not backed, and its address.
+    pub packed: Option<&'a [u8]>,
+    pub packed_at: u64,
     pub descriptors: &'a [u8],
 }
 
@@ -98,11 +106,11 @@ fn values<R: Rules, const N: usize>(entries: &[u8]) -> Result<Values, Refusal> {
             }
             break;
         }
-        if REFUSED.contains(&tag) {
+        if REFUSED.contains(&tag) || R::refused_tag(tag) {
             return Err(refusal(6, index));
         }
         if let Some(k) = KNOWN[..N].iter().position(|known| known.tag == tag) {
-            if values[k].is_some() || !(KNOWN[k].allowed)(value) {
+            if values[k].is_some() || !R::allowed(tag, (KNOWN[k].allowed)(value)) {
                 return Err(refusal(6, index));
             }
             values[k] = Some(value);
@@ -115,7 +123,7 @@ fn values<R: Rules, const N: usize>(entries: &[u8]) -> Result<Values, Refusal> {
     }
     let lone = |k: usize| {
         let partner = |j: usize| KNOWN[j].group == KNOWN[k].group && values[j].is_none();
-        values[k].is_some() && (0..N).any(partner)
+        values[k].is_some() && R::needs_partners(KNOWN[k].tag) && (0..N).any(partner)
     };
     match null {
         Some(index) if R::PARTNERS && (0..N).any(lone) => Err(refusal(6, index)),
@@ -129,9 +137,10 @@ fn table<'a, R: Rules>(
     segments: &Segments,
     address: Option<u64>,
     size: Option<u64>,
+    empty_anywhere: bool,
 ) -> Option<&'a [u8]> {
     match (address, size) {
-        (Some(_), Some(0)) if R::EMPTY_ANYWHERE => Some(&[]),
+        (Some(_), Some(0)) if empty_anywhere => Some(&[]),
         (Some(address), Some(size)) => segments.backed::<R>(file, address.into(), size),
         _ => Some(&[]),
     }
@@ -151,20 +160,40 @@ fn relocations<'a, R: Rules>(
     segments: &Segments,
     values: &Values,
 ) -> Result<&'a [u8], Refusal> {
-    table::<R>(file, segments, values[RELA], values[RELASZ])
+    table::<R>(file, segments, values[RELA], values[RELASZ], R::EMPTY_ANYWHERE)
         .filter(|table| table.len() as u64 / RELA_BYTES <= R::MOST_RELOCATIONS as u64)
         .ok_or(refusal(7, 0))
 }
 
-/// Checks 5 to 7 where the memtag tags are unknown: the symbol table's address, the relocations.
-pub fn untagged<'a>(
+/// The packed table, none where it is not backed.
+fn packed<'a, R: Rules>(file: &'a [u8], segments: &Segments, values: &Values) -> Option<&'a [u8]> {
+    table::<R>(file, segments, values[RELR], values[RELRSZ], R::EMPTY_PACKED_ANYWHERE)
+}
+
+/// What the known entries say where the memtag tags are unknown.
+pub struct Untagged<'a> {
+    pub symbols: Option<u64>,
+    pub relocations: &'a [u8],
+    pub packed: Option<&'a [u8]>,
+}
+
+/// Checks 5 to 7 where the memtag tags are unknown.
+pub fn untagged<'a, R: Rules>(
     file: &'a [u8],
     headers: &[u8],
     segments: &Segments,
-) -> Result<(Option<u64>, &'a [u8]), Refusal> {
-    let entries = section::<Right>(file, headers, segments)?;
-    let values = values::<Right, MODE>(entries)?;
-    Ok((values[SYMTAB], relocations::<Right>(file, segments, &values)?))
+) -> Result<Untagged<'a>, Refusal> {
+    let entries = section::<R>(file, headers, segments)?;
+    let values = if R::UNTAGGED_KNOWS_PACKED {
+        values::<R, MODE>(entries)?
+    } else {
+        values::<R, RELR>(entries)?
+    };
+    Ok(Untagged {
+        symbols: values[SYMTAB],
+        relocations: relocations::<R>(file, segments, &values)?,
+        packed: packed::<R>(file, segments, &values),
+    })
 }
 
 /// Checks 5 to 7.
@@ -176,8 +205,13 @@ pub fn dynamic<'a, R: Rules>(
     let entries = section::<R>(file, headers, segments)?;
     let values = values::<R, { KNOWN.len() }>(entries)?;
     let relocations = relocations::<R>(file, segments, &values)?;
+    let packed = packed::<R>(file, segments, &values);
+    if R::PACKED_EARLY {
+        packed::check::<R>(packed, relocations)?;
+    }
+    let globals = (values[GLOBALS], values[GLOBALSSZ]);
     let descriptors =
-        table::<R>(file, segments, values[GLOBALS], values[GLOBALSSZ]).ok_or(refusal(7, 1))?;
+        table::<R>(file, segments, globals.0, globals.1, R::EMPTY_ANYWHERE).ok_or(refusal(7, 1))?;
     Ok(Dynamic {
         mode: match values[MODE] {
             None => Mode::Absent,
@@ -188,6 +222,8 @@ pub fn dynamic<'a, R: Rules>(
         stack: switch(values[STACK]),
         symbols: values[SYMTAB],
         relocations,
+        packed,
+        packed_at: values[RELR].unwrap_or(0),
         descriptors,
     })
 }

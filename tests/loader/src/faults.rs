@@ -3,15 +3,22 @@
 
 use crate::answers::{Loader, Under};
 use crate::headers::{Segment, PT_DYNAMIC, PT_LOAD};
+use crate::relocations::ENTRY;
 use crate::rules::Rules;
-use crate::{ADDRESS_END, PAGE};
+use crate::{load_untagged_by, Refusal, Untagged, ADDRESS_END, PAGE};
 
 pub struct Fault {
     pub name: &'static str,
     pub loader: &'static (dyn Loader + Sync),
 }
 
-/// The fault of a name, among all of them.
+/// A fault of the plain loader of demand 3.
+pub struct UntaggedFault {
+    pub name: &'static str,
+    pub load: fn(&[u8], u64, u64) -> Result<Untagged, Refusal>,
+}
+
+/// The fault of a name, among those of loads and writes.
 pub fn named(name: &str) -> Option<&'static Fault> {
     FAULTS.iter().chain(WRITER_FAULTS).find(|fault| fault.name == name)
 }
@@ -21,15 +28,42 @@ fn bias_by(align: Option<u64>, bias: u64) -> bool {
     bias.is_multiple_of(PAGE) && bias.is_multiple_of(align.unwrap_or(0).max(1))
 }
 
-/// Defines each fault as the rules with the given items put in, and lists them all.
-macro_rules! faults {
-    ($list:ident: $($kind:ident $name:literal { $($item:item)* })*) => {
+/// RELA entries that are not skipped.
+fn not_skipped(relocations: &[u8]) -> usize {
+    let kinds = relocations.chunks_exact(ENTRY).map(|entry| &entry[8..12]);
+    kinds.filter(|&kind| kind != [0; 4]).count()
+}
+
+/// A packed tag.
+fn packed_tag(tag: u64) -> bool {
+    (35..=37).contains(&tag)
+}
+
+/// Rules with the given items put in.
+macro_rules! rules {
+    ($($kind:ident { $($item:item)* })*) => {
         $(
             pub struct $kind;
             impl Rules for $kind { $($item)* }
         )*
+    };
+}
+
+/// Defines each fault as the rules with the given items put in, and lists them all.
+macro_rules! faults {
+    ($list:ident: $($kind:ident $name:literal { $($item:item)* })*) => {
+        rules! { $($kind { $($item)* })* }
         pub const $list: &[Fault] =
             &[$(Fault { name: $name, loader: &Under::<$kind>::new() }),*];
+    };
+}
+
+/// The same for the plain loader of demand 3.
+macro_rules! untagged_faults {
+    ($list:ident: $($kind:ident $name:literal { $($item:item)* })*) => {
+        rules! { $($kind { $($item)* })* }
+        pub const $list: &[UntaggedFault] =
+            &[$(UntaggedFault { name: $name, load: load_untagged_by::<$kind> }),*];
     };
 }
 
@@ -419,6 +453,221 @@ faults! {
     }
     PlaneKept "other granules are not cleared" {
         const CLEARS_PLANE: bool = false;
+    }
+    PackedRefused "tag 36 is a bad entry" {
+        fn refused_tag(tag: u64) -> bool {
+            tag == 36
+        }
+    }
+    AnyPackedSize "packed bytes need not be a multiple of 8" {
+        fn allowed(tag: u64, allowed: bool) -> bool {
+            tag == 35 || allowed
+        }
+    }
+    AnyPackedEntry "any packed entry size" {
+        fn allowed(tag: u64, allowed: bool) -> bool {
+            tag == 37 || allowed
+        }
+    }
+    PackedAlone "packed tags need no partners" {
+        fn needs_partners(tag: u64) -> bool {
+            !packed_tag(tag)
+        }
+    }
+    PackedEmptyBacked "a packed table of 0 bytes must be backed" {
+        const EMPTY_PACKED_ANYWHERE: bool = false;
+    }
+    PackedEarly "15 before 7 of the descriptor table" {
+        const PACKED_EARLY: bool = true;
+    }
+    PackedLate "15 after 8 and 9" {
+        const PACKED_LATE: bool = true;
+    }
+    OddFirst "an odd first word is taken" {
+        const ODD_FIRST: bool = true;
+    }
+    MorePlaces "1,025 entries and packed places" {
+        const MOST_PLACES: usize = 1_025;
+    }
+    FewerPlaces "1,023 entries and packed places at most" {
+        const MOST_PLACES: usize = 1_023;
+    }
+    SkippedFree "skipped entries do not count beside packed places" {
+        fn counted(relocations: &[u8]) -> usize {
+            not_skipped(relocations)
+        }
+    }
+    EntriesFree "entries do not count beside packed places" {
+        fn counted(_: &[u8]) -> usize {
+            0
+        }
+    }
+    EvenFree "even words do not count" {
+        fn named(word: u64) -> usize {
+            if word & 1 == 0 { 0 } else { word.count_ones() as usize - 1 }
+        }
+    }
+    LowBitCounts "a bitmap's low bit counts" {
+        fn named(word: u64) -> usize {
+            if word & 1 == 0 { 1 } else { word.count_ones() as usize }
+        }
+    }
+    WordsCount "each packed word counts as one place" {
+        fn named(_: u64) -> usize {
+            1
+        }
+    }
+    PassedAtZero "15 always at 0" {
+        fn passed_at(_: &[u8], _: usize) -> u64 {
+            0
+        }
+    }
+    PassedNext "15 at the word after" {
+        fn passed_at(_: &[u8], index: usize) -> u64 {
+            index as u64 + 1
+        }
+    }
+    PassedBehind "15 with the number of entries" {
+        fn passed_at(relocations: &[u8], index: usize) -> u64 {
+            (relocations.len() / ENTRY + index) as u64
+        }
+    }
+    LowBitNames "a bitmap of 64 places" {
+        fn bits(word: u64) -> u64 {
+            word
+        }
+    }
+    ShortBitmap "a bitmap of 62 places" {
+        fn bits(word: u64) -> u64 {
+            word << 1 >> 2
+        }
+    }
+    LongRun "the run moves on by 512" {
+        const RUN_BYTES: u64 = 512;
+    }
+    ShortRun "the run moves on by 496" {
+        const RUN_BYTES: u64 = 496;
+    }
+    RunAtPlace "the run starts at the even word's place" {
+        fn run_after(place: u64) -> u64 {
+            place
+        }
+    }
+    BitsFromOne "bit i names 8 * i into the run" {
+        fn into_run(bit: u32) -> u64 {
+            8 * (u64::from(bit) + 1)
+        }
+    }
+    PackedUneven "packed places need not be multiples of 8" {
+        fn packed_aligned(_: u64) -> bool {
+            true
+        }
+    }
+    PackedReadOnly "packed places in read-only segments" {
+        fn packed_in(segment: &Segment, place: u64) -> bool {
+            segment.address <= place && u128::from(place) + 8 <= segment.end().into()
+        }
+    }
+    PackedInFile "a packed place must be in the file part" {
+        fn packed_in(segment: &Segment, place: u64) -> bool {
+            let end = segment.address + segment.file_size;
+            segment.writable && segment.address <= place && u128::from(place) + 8 <= end.into()
+        }
+    }
+    RepeatsEntry "a packed place may be a RELA entry's" {
+        fn repeats_entry(_: u32, _: u64, _: u64) -> bool {
+            false
+        }
+    }
+    RepeatsSkipped "a packed place may not be a skipped entry's" {
+        fn repeats_entry(_: u32, place_before: u64, place: u64) -> bool {
+            place_before == place
+        }
+    }
+    RepeatsPacked "packed places may be repeated" {
+        fn repeats_packed(_: u64, _: u64) -> bool {
+            false
+        }
+    }
+    PlaceBare "11 at the bare index of a packed word" {
+        fn place_at(_: &[u8], index: usize) -> u64 {
+            index as u64
+        }
+    }
+    PlaceSkips "11 counts entries not skipped before a packed word" {
+        fn place_at(relocations: &[u8], index: usize) -> u64 {
+            (not_skipped(relocations) + index) as u64
+        }
+    }
+    AddressBare "13 at the bare index of a packed word" {
+        fn address_at(_: &[u8], index: usize) -> u64 {
+            index as u64
+        }
+    }
+    AddressSkips "13 counts entries not skipped before a packed word" {
+        fn address_at(relocations: &[u8], index: usize) -> u64 {
+            (not_skipped(relocations) + index) as u64
+        }
+    }
+    PackedFirst "packed words before RELA entries" {
+        const PACKED_FIRST: bool = true;
+    }
+    PackedUncounted "packed places do not count as words" {
+        fn packed_words(_: u64) -> u64 {
+            0
+        }
+    }
+    LoadedOver "13 reads past the file part" {
+        fn loaded_size(segment: &Segment, file: usize) -> usize {
+            file - segment.offset as usize
+        }
+    }
+    LoadedSigned "loaded bytes read signed" {
+        fn packed_address(bias: u64, loaded: u64) -> i128 {
+            i128::from(bias) + i128::from(loaded as i64)
+        }
+    }
+    LoadedBare "a packed address without the bias" {
+        fn packed_address(_: u64, loaded: u64) -> i128 {
+            loaded.into()
+        }
+    }
+    PackedBareSource "a packed tag source without the bias" {
+        fn packed_source(_: u64, loaded: u64) -> Option<u128> {
+            Some(loaded.into())
+        }
+    }
+    PackedRelative "a packed tag source by RELATIVE's rule" {
+        fn packed_source(bias: u64, loaded: u64) -> Option<u128> {
+            Some(bias.wrapping_add(loaded).wrapping_add(loaded).into())
+        }
+    }
+    PackedUntagged "packed words have tag 0" {
+        fn packed_source(_: u64, _: u64) -> Option<u128> {
+            None
+        }
+    }
+    PackedFromMemory "packed words read from relocated memory" {
+        const PACKED_FROM_MEMORY: bool = true;
+    }
+}
+
+// Loads by the plain loader of demand 3 tell these apart.
+untagged_faults! {
+    UNTAGGED_FAULTS:
+    UntaggedUnknown "the plain loader passes over tags 35 to 37" {
+        const UNTAGGED_KNOWS_PACKED: bool = false;
+    }
+    UntaggedUnchecked "the plain loader has no 15" {
+        const UNTAGGED_CHECKS_PACKED: bool = false;
+    }
+    UntaggedLate "the plain loader has 15 after 11" {
+        const UNTAGGED_PACKED_LATE: bool = true;
+    }
+    UntaggedSigned "the plain loader reads loaded bytes signed" {
+        fn packed_address(bias: u64, loaded: u64) -> i128 {
+            i128::from(bias) + i128::from(loaded as i64)
+        }
     }
 }
 

@@ -87,6 +87,18 @@ impl Segments {
         }
     }
 
+    /// The eight bytes at a place of one memory part as they are loaded: 0 past the file part.
+    pub fn loaded<R: Rules>(&self, file: &[u8], place: u64) -> u64 {
+        let holds = |s: &&Segment| s.address <= place && place < s.end();
+        let Some(segment) = self.all().iter().find(holds) else { return 0 };
+        let contents = &file[segment.offset as usize..][..R::loaded_size(segment, file.len())];
+        let rest = contents.get((place - segment.address) as usize..).unwrap_or(&[]);
+        match rest.first_chunk() {
+            Some(bytes) => u64::from_le_bytes(*bytes),
+            None => rest.iter().rev().fold(0, |word, &byte| word << 8 | u64::from(byte)),
+        }
+    }
+
     /// The file's bytes for a range of addresses that is wholly inside one file part.
     pub fn backed<'a, R: Rules>(
         &self,

@@ -14,6 +14,7 @@ pub mod ffi;
 pub mod generate;
 mod headers;
 mod load;
+mod packed;
 pub mod random;
 mod relocations;
 pub mod rules;
@@ -23,14 +24,14 @@ pub mod writer;
 
 pub use descriptors::{step_by, Step};
 pub use load::{examine_by, load_by};
-pub use untagged::{load_untagged, Untagged};
+pub use untagged::{load_untagged_by, Untagged};
 pub use writer::write_table_by;
 
 use rules::Right;
 
 /// Largest file and largest lent memory, in bytes.
 pub const LARGEST: u64 = 1_048_576;
-/// Most relocations, and most descriptors.
+/// Most RELA entries and packed places together, and most descriptors.
 pub const MOST: usize = 1_024;
 /// Bytes of the smallest page: every bias is a multiple of it.
 pub const PAGE: u64 = 4_096;
@@ -73,12 +74,12 @@ pub struct Facts {
     pub words: u64,
 }
 
-/// Checks 1 to 11 of a file, and its facts.
+/// Checks 1 to 11 and 15 of a file, and its facts.
 pub fn examine(file: &[u8]) -> Result<Facts, Refusal> {
     examine_by::<Right>(file)
 }
 
-/// Checks 1 to 14, then places, tags and relocates. A refusal leaves both buffers as they were.
+/// Checks 1 to 15, then places, tags and relocates. A refusal leaves both buffers as they were.
 pub fn load(
     file: &[u8],
     bias: u64,
@@ -87,6 +88,11 @@ pub fn load(
     choices: &[u8],
 ) -> Result<Facts, Refusal> {
     load_by::<Right>(file, bias, memory, plane, choices)
+}
+
+/// The load of demand 3's plain loader.
+pub fn load_untagged(file: &[u8], bias: u64, length: u64) -> Result<Untagged, Refusal> {
+    load_untagged_by::<Right>(file, bias, length)
 }
 
 /// Reads one descriptor.

@@ -1,13 +1,14 @@
-//! The two calls: a file read through checks 1 to 11, then 12 to 14, then the writes.
+//! The two calls: a file read through checks 1 to 11 and 15, then 12 to 14, then the writes.
 
 use crate::bytes::u64_at;
 use crate::dynamic::{dynamic, Dynamic};
 use crate::headers::{aligns, header_table, segments, Segments};
+use crate::packed::Places;
 use crate::relocations::{address, source, target_of, Tables, Target, ENTRY};
 use crate::rules::Rules;
-use crate::{descriptors, refusal, Facts, Refusal, GRANULE, LARGEST};
+use crate::{descriptors, packed, refusal, Facts, Refusal, GRANULE, LARGEST};
 
-/// A file that has passed checks 1 to 11.
+/// A file that has passed checks 1 to 11 and 15.
 struct Image<'a> {
     file: &'a [u8],
     headers: &'a [u8],
@@ -22,7 +23,14 @@ impl<'a> Image<'a> {
         let headers = header_table::<R>(file)?;
         let segments = segments::<R>(file, headers)?;
         let dynamic = dynamic::<R>(file, headers, &segments)?;
+        let check = || packed::check::<R>(dynamic.packed, dynamic.relocations);
+        if !R::PACKED_LATE {
+            check()?;
+        }
         let globals = descriptors::count::<R>(dynamic.descriptors, &segments)?;
+        if R::PACKED_LATE {
+            check()?;
+        }
         let mut image = Image { file, headers, segments, dynamic, globals, words: 0 };
         image.words = image.tables().check::<R>()?;
         Ok(image)
@@ -34,6 +42,7 @@ impl<'a> Image<'a> {
             segments: &self.segments,
             symbols: self.dynamic.symbols,
             relocations: self.dynamic.relocations,
+            packed: self.dynamic.packed.unwrap_or_default(),
         }
     }
 
@@ -108,6 +117,20 @@ impl<'a> Image<'a> {
                 None => 0,
             };
             let word = address::<R>(target, bias, entry.addend) as u64 | u64::from(tag) << 56;
+            memory[place..place + 8].copy_from_slice(&word.to_le_bytes());
+        }
+        let relocated;
+        let mut packed = tables.packed;
+        if R::PACKED_FROM_MEMORY && !packed.is_empty() {
+            relocated = memory[self.dynamic.packed_at as usize..][..packed.len()].to_vec();
+            packed = &relocated;
+        }
+        for (_, place) in Places::<R>::new(packed) {
+            let place = place as usize;
+            let loaded = u64_at(memory, place);
+            let tag =
+                R::packed_source(bias, loaded).map_or(0, |source| tag_at(plane, source, bias));
+            let word = R::packed_address(bias, loaded) as u64 | u64::from(tag) << 56;
             memory[place..place + 8].copy_from_slice(&word.to_le_bytes());
         }
     }

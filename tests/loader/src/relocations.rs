@@ -2,8 +2,9 @@
 
 use crate::bytes::{u16_at, u32_at, u64_at};
 use crate::headers::Segments;
+use crate::packed::Places;
 use crate::rules::Rules;
-use crate::{refusal, Refusal};
+use crate::{refusal, Refusal, MOST};
 
 pub const ENTRY: usize = 24;
 const NONE: u32 = 0;
@@ -47,9 +48,15 @@ pub struct Tables<'a> {
     pub segments: &'a Segments,
     pub symbols: Option<u64>,
     pub relocations: &'a [u8],
+    pub packed: &'a [u8],
 }
 
 impl<'a> Tables<'a> {
+    /// The packed places, with the indexes of their words.
+    pub fn places<R: Rules>(&self) -> Places<'a, R> {
+        Places::new(self.packed)
+    }
+
     /// The entries not skipped, with their indexes.
     pub fn entries(&self) -> impl Iterator<Item = (usize, Relocation)> + 'a {
         let all = self.relocations.chunks_exact(ENTRY).map(Relocation::read);
@@ -86,8 +93,40 @@ impl<'a> Tables<'a> {
         true
     }
 
+    /// Check 11 of a packed place behind others.
+    fn packed_good<R: Rules>(&self, before: &[u64], place: u64) -> bool {
+        if !R::packed_aligned(place) || !self.segments.all().iter().any(|s| R::packed_in(s, place))
+        {
+            return false;
+        }
+        for entry in self.relocations.chunks_exact(ENTRY) {
+            if R::repeats_entry(u32_at(entry, 8), u64_at(entry, 0), place) {
+                return false;
+            }
+        }
+        !before.iter().any(|&before| R::repeats_packed(before, place))
+    }
+
+    /// Check 11 of the packed places; their number.
+    fn check_packed<R: Rules>(&self) -> Result<u64, Refusal> {
+        if self.packed.is_empty() {
+            return Ok(0);
+        }
+        let mut before = Vec::with_capacity(MOST);
+        for (index, place) in self.places::<R>() {
+            if !self.packed_good::<R>(&before, place) {
+                return Err(refusal(11, R::place_at(self.relocations, index)));
+            }
+            before.push(place);
+        }
+        Ok(R::packed_words(before.len() as u64))
+    }
+
     /// Checks 10 and 11; the number of words relocated.
     pub fn check<R: Rules>(&self) -> Result<u64, Refusal> {
+        if R::PACKED_FIRST {
+            self.check_packed::<R>()?;
+        }
         let mut words = 0;
         for (index, entry) in self.entries() {
             if R::PLACE_FIRST && !self.place_good::<R>(index, entry.place) {
@@ -101,15 +140,29 @@ impl<'a> Tables<'a> {
             }
             words += 1;
         }
-        Ok(R::words(words, (self.relocations.len() / ENTRY) as u64))
+        Ok(R::words(words, (self.relocations.len() / ENTRY) as u64) + self.check_packed::<R>()?)
     }
 
     /// Check 13.
     pub fn check_addresses<R: Rules>(&self, bias: u64) -> Result<(), Refusal> {
+        if R::PACKED_FIRST {
+            self.check_packed_addresses::<R>(bias)?;
+        }
         for (index, entry) in self.entries() {
             let target = self.target::<R>(&entry).unwrap_or(Target::Base);
             if !R::address_fits(address::<R>(target, bias, entry.addend)) {
                 return Err(refusal(13, index as u64));
+            }
+        }
+        self.check_packed_addresses::<R>(bias)
+    }
+
+    /// Check 13 of the packed places.
+    fn check_packed_addresses<R: Rules>(&self, bias: u64) -> Result<(), Refusal> {
+        for (index, place) in self.places::<R>() {
+            let loaded = self.segments.loaded::<R>(self.file, place);
+            if !R::address_fits(R::packed_address(bias, loaded)) {
+                return Err(refusal(13, R::address_at(self.relocations, index)));
             }
         }
         Ok(())

@@ -2,6 +2,7 @@
 //! the right ones; a fault overrides one of them.
 
 use crate::headers::{Segment, PT_LOAD};
+use crate::relocations::ENTRY;
 use crate::{ADDRESS_END, GRANULE, LARGEST, MOST, PAGE};
 
 pub trait Rules {
@@ -50,12 +51,74 @@ pub trait Rules {
     const PARTNERS: bool = true;
     /// 6: other tags may be repeated.
     const UNKNOWN_ONCE: bool = false;
+    /// 6: tags that are refused besides REL and JMPREL.
+    fn refused_tag(_tag: u64) -> bool {
+        false
+    }
+
+    /// 6: a known tag's value is one of those allowed.
+    fn allowed(_tag: u64, allowed: bool) -> bool {
+        allowed
+    }
+
+    /// 6: known tags whose partners are looked for.
+    fn needs_partners(_tag: u64) -> bool {
+        true
+    }
+
     /// 6: tags are compared on 64 bits.
     const TAG_BITS: u32 = 64;
     /// 7: the most relocations.
     const MOST_RELOCATIONS: usize = MOST;
     /// 7: a table of 0 bytes is accepted anywhere.
     const EMPTY_ANYWHERE: bool = true;
+    /// 15: so is a packed table of 0 bytes.
+    const EMPTY_PACKED_ANYWHERE: bool = true;
+    /// 15 comes after 7, of the descriptor table too, and before 8.
+    const PACKED_EARLY: bool = false;
+    const PACKED_LATE: bool = false;
+    /// 15: an odd first word is refused.
+    const ODD_FIRST: bool = false;
+    /// 15: the most RELA entries and packed places together.
+    const MOST_PLACES: usize = MOST;
+
+    /// 15: RELA entries that count, skipped ones too.
+    fn counted(relocations: &[u8]) -> usize {
+        relocations.len() / ENTRY
+    }
+
+    /// 15: how many places a packed word names; an empty bitmap costs least.
+    fn named(word: u64) -> usize {
+        match word {
+            1 => 0,
+            _ if word & 1 == 0 => 1,
+            _ => word.count_ones() as usize - 1,
+        }
+    }
+
+    /// 15: the position of the word that goes past the most, beside the RELA table.
+    fn passed_at(_relocations: &[u8], index: usize) -> u64 {
+        index as u64
+    }
+
+    /// The run that follows an even word starts 8 bytes after it.
+    fn run_after(place: u64) -> u64 {
+        place.wrapping_add(8)
+    }
+
+    /// What the run moves on by for each odd word.
+    const RUN_BYTES: u64 = 504;
+
+    /// The bits of an odd word that name places, bit 1 the lowest.
+    fn bits(word: u64) -> u64 {
+        word >> 1
+    }
+
+    /// How far into the run the place of one of these bits is.
+    fn into_run(bit: u32) -> u64 {
+        8 * u64::from(bit)
+    }
+
     /// 9: the most descriptors.
     const MOST_DESCRIPTORS: usize = MOST;
 
@@ -113,9 +176,47 @@ pub trait Rules {
         kind_before != 0 && place_before == place
     }
 
+    /// 11: a packed place is a multiple of 8.
+    fn packed_aligned(place: u64) -> bool {
+        place.is_multiple_of(8)
+    }
+
+    /// 11: a packed place lies where others do.
+    fn packed_in(segment: &Segment, place: u64) -> bool {
+        Self::place_in(segment, place)
+    }
+
+    /// 11: a packed place differs from those of RELA entries not skipped.
+    fn repeats_entry(kind: u32, place_before: u64, place: u64) -> bool {
+        kind != 0 && place_before == place
+    }
+
+    /// 11: a packed place differs from the packed ones before.
+    fn repeats_packed(place_before: u64, place: u64) -> bool {
+        place_before == place
+    }
+
+    /// 11: the position of a packed word, behind all RELA entries.
+    fn place_at(relocations: &[u8], index: usize) -> u64 {
+        (relocations.len() / ENTRY + index) as u64
+    }
+
+    /// 13: the same.
+    fn address_at(relocations: &[u8], index: usize) -> u64 {
+        (relocations.len() / ENTRY + index) as u64
+    }
+
+    /// 11 and 13: packed words come after RELA entries.
+    const PACKED_FIRST: bool = false;
+
     /// Words relocated are the entries not skipped.
     fn words(relocated: u64, _entries: u64) -> u64 {
         relocated
+    }
+
+    /// And the packed places.
+    fn packed_words(places: u64) -> u64 {
+        places
     }
 
     /// 12: memory length against the end of the last PT_LOAD.
@@ -188,8 +289,30 @@ pub trait Rules {
         addend.into()
     }
 
-    /// Symbols are read from the file.
+    /// The bytes of a segment that are loaded from the file.
+    fn loaded_size(segment: &Segment, _file: usize) -> usize {
+        segment.file_size as usize
+    }
+
+    /// Address of a packed place, from its loaded bytes, unsigned.
+    fn packed_address(bias: u64, loaded: u64) -> i128 {
+        i128::from(bias) + i128::from(loaded)
+    }
+
+    /// Tag source of a packed place: its address.
+    fn packed_source(bias: u64, loaded: u64) -> Option<u128> {
+        Some(Self::sum(bias, loaded))
+    }
+
+    /// Symbols and packed words are read from the file.
     const SYMBOLS_FROM_MEMORY: bool = false;
+    const PACKED_FROM_MEMORY: bool = false;
+
+    /// The plain loader of demand 3 knows the packed tags, and keeps 15.
+    const UNTAGGED_KNOWS_PACKED: bool = true;
+    const UNTAGGED_CHECKS_PACKED: bool = true;
+    /// There too it comes before 10 and 11.
+    const UNTAGGED_PACKED_LATE: bool = false;
 
     // The writer of tables.
 

@@ -65,8 +65,9 @@ impl<'a> Records<'a> {
 }
 
 /// The sets of loads.
-pub const LOADS: [&str; 2] = ["load", LEVEL_2];
-const LEVEL_2: &str = "level-02/load";
+pub const LOADS: [&str; 3] = ["load", "level-02/load", "level-03/load"];
+/// The folders of those that the untagged loader has answers for.
+pub const UNTAGGED: [&str; 2] = ["level-02", "level-03"];
 
 pub fn loads(set: &str) -> Vec<LoadVector> {
     let bytes = read(&format!("{set}.cases"));
@@ -90,10 +91,10 @@ pub fn loads(set: &str) -> Vec<LoadVector> {
     vectors
 }
 
-/// The loads that the untagged loader has answers for, with these in place of the loads'.
-pub fn untagged_loads() -> Vec<LoadVector> {
-    let answers = lines("level-02/plain.answers");
-    let loads = loads(LEVEL_2);
+/// The loads of a folder with the untagged loader's answers in place of the loads'.
+pub fn untagged_loads(folder: &str) -> Vec<LoadVector> {
+    let answers = lines(&format!("{folder}/plain.answers"));
+    let loads = loads(&format!("{folder}/load"));
     assert_eq!(loads.len(), answers.len());
     loads.into_iter().zip(answers).map(|(load, answer)| LoadVector { answer, ..load }).collect()
 }

@@ -1,27 +1,28 @@
 //! The generated cases tell every seeded fault from the right loader.
 
-use loader::answers::{Loader, RIGHT};
-use loader::faults::{Fault, FAULTS, WRITER_FAULTS};
+use loader::answers::{Call, Loader, RIGHT};
+use loader::faults::{FAULTS, UNTAGGED_FAULTS, WRITER_FAULTS};
 use loader::generate::list::write_case;
 use loader::generate::{cases, count, step_case, SEED};
+use loader::load_untagged;
 use std::panic::{catch_unwind, AssertUnwindSafe};
 
 /// Counts by fault, in a table with the first case that tells it from the right one.
 struct Caught {
-    faults: &'static [Fault],
+    names: Vec<&'static str>,
     counts: Vec<(u64, u64, Option<String>)>,
 }
 
 impl Caught {
-    fn new(faults: &'static [Fault]) -> Caught {
-        Caught { faults, counts: vec![(0, 0, None); faults.len()] }
+    fn new(names: Vec<&'static str>) -> Caught {
+        Caught { counts: vec![(0, 0, None); names.len()], names }
     }
 
-    /// What each wrong loader does, beside what the right one did.
-    fn case<T: PartialEq>(&mut self, name: &str, right: T, by: impl Fn(&dyn Loader) -> T) {
-        for (fault, (times, stops, first)) in self.faults.iter().zip(&mut self.counts) {
+    /// What each wrong loader does, by its index, beside what the right one did.
+    fn case<T: PartialEq>(&mut self, name: &str, right: T, by: impl Fn(usize) -> T) {
+        for (i, (times, stops, first)) in self.counts.iter_mut().enumerate() {
             // A wrong loader that stops is told apart as well, but counted on its own.
-            match catch_unwind(AssertUnwindSafe(|| by(fault.loader))) {
+            match catch_unwind(AssertUnwindSafe(|| by(i))) {
                 Ok(wrong) if wrong == right => continue,
                 Ok(_) => *times += 1,
                 Err(_) => *stops += 1,
@@ -32,12 +33,12 @@ impl Caught {
 
     fn each(&self, total: u64) {
         println!("differs  stops");
-        for (fault, (times, stops, first)) in self.faults.iter().zip(&self.counts) {
-            println!("{times:7} {stops:6}  {:45} {}", fault.name, first.as_deref().unwrap_or("-"));
+        for (name, (times, stops, first)) in self.names.iter().zip(&self.counts) {
+            println!("{times:7} {stops:6}  {name:45} {}", first.as_deref().unwrap_or("-"));
         }
-        println!("{} faults, {total} cases", self.faults.len());
-        for (fault, (times, stops, _)) in self.faults.iter().zip(&self.counts) {
-            assert!(times + stops > 0, "not caught: {}", fault.name);
+        println!("{} faults, {total} cases", self.names.len());
+        for (name, (times, stops, _)) in self.names.iter().zip(&self.counts) {
+            assert!(times + stops > 0, "not caught: {name}");
         }
     }
 }
@@ -45,19 +46,28 @@ impl Caught {
 #[test]
 fn each_is_caught() {
     let total = count(11_000);
-    let (mut loads, mut writes) = (Caught::new(FAULTS), Caught::new(WRITER_FAULTS));
+    let mut loads = Caught::new(FAULTS.iter().map(|f| f.name).collect());
+    let mut untagged = Caught::new(UNTAGGED_FAULTS.iter().map(|f| f.name).collect());
+    let mut writes = Caught::new(WRITER_FAULTS.iter().map(|f| f.name).collect());
     std::panic::set_hook(Box::new(|_| {}));
     for (i, case) in cases(SEED, total).enumerate() {
         let name = format!("case {i}, {}", case.name);
-        loads.case(&name, RIGHT.outcome(&case.call), |loader| loader.outcome(&case.call));
+        loads.case(&name, RIGHT.outcome(&case.call), |i| FAULTS[i].loader.outcome(&case.call));
+        let Call { file, bias, memory_length, .. } = &case.call;
+        let length = *memory_length as u64;
+        let right = load_untagged(file, *bias, length);
+        untagged.case(&name, right, |i| (UNTAGGED_FAULTS[i].load)(file, *bias, length));
     }
     for i in 0..total {
         let case = write_case(SEED, i);
         let name = format!("list {i}, {}", case.name);
-        writes.case(&name, RIGHT.written(&case.list), |loader| loader.written(&case.list));
+        writes.case(&name, RIGHT.written(&case.list), |i| {
+            WRITER_FAULTS[i].loader.written(&case.list)
+        });
     }
     let _ = std::panic::take_hook();
     loads.each(total);
+    untagged.each(total);
     writes.each(total);
 }
 

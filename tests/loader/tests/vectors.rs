@@ -5,7 +5,7 @@ use loader::{examine, load_untagged, step, vectors};
 
 #[test]
 fn loads() {
-    for (set, count) in vectors::LOADS.into_iter().zip([700, 262]) {
+    for (set, count) in vectors::LOADS.into_iter().zip([700, 262, 341]) {
         let vectors = vectors::loads(set);
         assert_eq!(vectors.len(), count);
         for (i, v) in vectors.iter().enumerate() {
@@ -17,12 +17,14 @@ fn loads() {
 
 #[test]
 fn untagged_loads() {
-    let vectors = vectors::untagged_loads();
-    assert_eq!(vectors.len(), 262);
-    for (i, v) in vectors.iter().enumerate() {
-        let Call { file, bias, memory_length, .. } = &v.call;
-        let line = vectors::untagged_line(&load_untagged(file, *bias, *memory_length as u64));
-        assert_eq!(line, v.answer, "case {i}, {}", v.name);
+    for (folder, count) in vectors::UNTAGGED.into_iter().zip([262, 341]) {
+        let vectors = vectors::untagged_loads(folder);
+        assert_eq!(vectors.len(), count);
+        for (i, v) in vectors.iter().enumerate() {
+            let Call { file, bias, memory_length, .. } = &v.call;
+            let line = vectors::untagged_line(&load_untagged(file, *bias, *memory_length as u64));
+            assert_eq!(line, v.answer, "{folder}: case {i}, {}", v.name);
+        }
     }
 }
 

@@ -3,7 +3,7 @@
 //!     bench [--against archive] [--rounds N]
 
 use loader::answers::{Listing, Loader};
-use loader::bench::{bare, examines, image, loads, Times, SIZES};
+use loader::bench::{bare, empty_bitmaps, examines, image, loads, packed, Times, SIZES};
 use loader::bench::{mixed_globals, short_globals, writes};
 use loader::compare::partner;
 use std::process::ExitCode;
@@ -54,9 +54,15 @@ fn run(words: &[String]) -> Result<(), String> {
         row(&name, "load", loads(&call, loaders, rounds));
         row(&name, "examine", examines(&call, loaders, rounds));
     }
-    let call = bare(1 << 20);
-    row("1024 KiB, no relocations", "load", loads(&call, loaders, rounds));
-    row("1024 KiB, no relocations", "examine", examines(&call, loaders, rounds));
+    let others = [
+        ("1024 KiB, no relocations", bare(1 << 20)),
+        ("256 KiB, 1,000 packed places", packed(256 << 10)),
+        ("256 KiB, 10,000 empty bitmaps", empty_bitmaps(256 << 10, 10_000)),
+    ];
+    for (name, call) in others {
+        row(name, "load", loads(&call, loaders, rounds));
+        row(name, "examine", examines(&call, loaders, rounds));
+    }
 
     println!("\nNanoseconds a global of write_table, in the same way.\n");
     println!("| list | first best | first median | second best | second median | best ratio | median ratio |");

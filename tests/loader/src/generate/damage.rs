@@ -1,9 +1,9 @@
-//! Damages: each changes a valid module at one clause of one row of document 01, on the side
-//! that is refused or just inside the limit, and knows the answer.
+//! Damages: each changes a valid module at one clause of one row of document 01, or of refusal 15, on the
+//! side that is refused or just inside the limit, and knows the answer.
 
 use super::module::*;
 use crate::random::Random;
-use crate::{ADDRESS_END, LARGEST, PAGE};
+use crate::{ADDRESS_END, LARGEST, MOST, PAGE};
 
 #[derive(Clone, Copy, Debug, PartialEq, Eq)]
 pub enum Expected {
@@ -105,18 +105,23 @@ fn lost(m: &mut Module, r: &mut Random, group: &[u64]) -> Option<Expected> {
     refused(6, m.null())
 }
 
-// Row 7.
+// Rows 7 and 15.
+
+#[derive(Clone, Copy)]
+enum Table {
+    Relocations,
+    Descriptors,
+    Packed,
+}
+
+use Table::{Descriptors, Packed, Relocations};
 
 /// A table's address and size tags moved by hand.
-fn table(
-    m: &mut Module,
-    position: usize,
-    change: fn(&Header, u64) -> (u64, u64),
-) -> Option<Expected> {
-    let (room, tags) = if position == 0 {
-        (m.relocation_room, (RELA, RELASZ))
-    } else {
-        (m.descriptor_room, (GLOBALS, GLOBALSSZ))
+fn table(m: &mut Module, which: Table, change: fn(&Header, u64) -> (u64, u64)) -> Option<Expected> {
+    let (room, tags, (number, position)) = match which {
+        Relocations => (m.relocation_room, (RELA, RELASZ), (7, 0)),
+        Descriptors => (m.descriptor_room, (GLOBALS, GLOBALSSZ), (7, 1)),
+        Packed => (m.packed_room, (RELR, RELRSZ), (15, 0)),
     };
     let size = m.dynamic[m.entry(tags.1)?].1;
     given(size > 0)?;
@@ -128,7 +133,7 @@ fn table(
     given(!m.loads().into_iter().any(|i| backs(&m.headers[i])))?;
     m.set(tags.0, address);
     m.set(tags.1, size);
-    refused(7, position)
+    refused(number, position)
 }
 
 fn last_byte_out(load: &Header, size: u64) -> (u64, u64) {
@@ -145,6 +150,42 @@ fn past_file_part(load: &Header, size: u64) -> (u64, u64) {
 
 fn at_end_of_words(_: &Header, size: u64) -> (u64, u64) {
     (0u64.wrapping_sub(size), size)
+}
+
+/// Other packed words, and the one at which they are too many beside the RELA entries.
+fn too_many(m: &mut Module, words: Vec<u64>) -> Option<Expected> {
+    let passed = passing(m.relocations.len(), &words)?;
+    given(m.put_packed(words))?;
+    refused(15, passed)
+}
+
+/// A place and bitmaps of so many bits each, until they are too many, at times with more after.
+fn bitmaps(m: &mut Module, r: &mut Random, place: u64, bits: u32) -> Option<Expected> {
+    let most = (m.packed_room.size / 8) as usize;
+    let mut words = vec![place];
+    while words.len() < most && passing(m.relocations.len(), &words).is_none() {
+        let mut word = u64::MAX;
+        while word.count_ones() > bits + 1 {
+            word &= !(2 << r.below(63));
+        }
+        words.push(word);
+    }
+    words.extend(vec![u64::MAX; r.index(3).min(most - words.len())]);
+    too_many(m, words)
+}
+
+/// Packed words before the others; where the first is even, these keep their places.
+fn before(m: &mut Module, words: &[u64]) -> Option<()> {
+    let words = [words, &m.packed[..]].concat();
+    given(m.put_packed(words))
+}
+
+/// Packed words after the others; the index of the first.
+fn after(m: &mut Module, words: &[u64]) -> Option<usize> {
+    let index = m.packed.len();
+    let words = [&m.packed[..], words].concat();
+    given(m.put_packed(words))?;
+    Some(index)
 }
 
 // Rows 8 and 9.
@@ -237,9 +278,50 @@ fn place_at(m: &mut Module, r: &mut Random, place: u64) -> Option<Expected> {
     refused(11, i)
 }
 
+fn used(m: &Module, place: u64) -> bool {
+    let packed = unpack(&m.packed).iter().any(|p| p.1 == place.into());
+    packed || m.relocations.iter().any(|e| e.kind != NONE && e.place == place)
+}
+
+/// A packed word at the front or the back that is no place.
+fn bad_packed(m: &mut Module, r: &mut Random, place: u64) -> Option<Expected> {
+    given(place.is_multiple_of(2))?;
+    given(!place.is_multiple_of(8) || !holds_place(m, place))?;
+    if r.once_in(2) {
+        before(m, &[place])?;
+        return refused(11, m.relocations.len());
+    }
+    let i = after(m, &[place])?;
+    refused(11, m.relocations.len() + i)
+}
+
+/// A packed word more, with what is loaded at its place.
+fn free_packed(m: &mut Module, r: &mut Random, place: u64, loaded: u64) -> Option<usize> {
+    given(!used(m, place) && place.is_multiple_of(8) && holds_place(m, place))?;
+    m.words.push((place, loaded));
+    if r.once_in(2) {
+        before(m, &[place])?;
+        return Some(m.relocations.len());
+    }
+    Some(m.relocations.len() + after(m, &[place])?)
+}
+
+fn taken_packed(m: &mut Module, r: &mut Random, place: u64) -> Option<Expected> {
+    let loaded = r.below(m.memory.max(1)).min(m.highest());
+    free_packed(m, r, place, loaded)?;
+    Some(Taken)
+}
+
+/// A place that lies over the end of a file part, and how many of its bytes are before that.
+fn seam(m: &Module, r: &mut Random) -> Option<(u64, u64)> {
+    let load = any_load(m, r)?;
+    let place = load.file_end() / 8 * 8;
+    given(load.address <= place && place < load.file_end())?;
+    Some((place, load.file_end() - place))
+}
+
 fn free_place(m: &mut Module, r: &mut Random, place: u64) -> Option<Expected> {
-    let used = m.relocations.iter().any(|e| e.kind != NONE && e.place == place);
-    given(!used && holds_place(m, place))?;
+    given(!used(m, place) && holds_place(m, place))?;
     let i = one(r, &m.live())?;
     m.relocations[i].place = place;
     Some(Taken)
@@ -321,6 +403,30 @@ fn missed(m: &mut Module, r: &mut Random, wanted: i128) -> Option<Expected> {
 
 fn met(m: &mut Module, r: &mut Random, wanted: i128) -> Option<Expected> {
     aim(m, r, wanted)?;
+    Some(Taken)
+}
+
+/// What is loaded at a packed place; the position of its word.
+fn aim_packed(m: &mut Module, r: &mut Random, loaded: u64) -> Option<usize> {
+    let places = unpack(&m.packed);
+    given(!places.is_empty())?;
+    let (index, place) = r.pick(&places);
+    let place = place as u64;
+    m.words.retain(|word| word.0 != place);
+    m.words.push((place, loaded));
+    given(m.loaded(&m.call().file, place) == loaded)?;
+    Some(m.relocations.len() + index)
+}
+
+fn missed_packed(m: &mut Module, r: &mut Random, loaded: u64) -> Option<Expected> {
+    given(loaded > m.highest())?;
+    let at = aim_packed(m, r, loaded)?;
+    refused(13, at)
+}
+
+fn met_packed(m: &mut Module, r: &mut Random, loaded: u64) -> Option<Expected> {
+    given(loaded <= m.highest())?;
+    aim_packed(m, r, loaded)?;
     Some(Taken)
 }
 
@@ -619,12 +725,12 @@ pub const DAMAGES: &[Damage] = &[
     }),
     damage(6, "refused tag", |m, r| {
         let at = m.free_entry(r)?;
-        m.dynamic[at] = (r.pick(&[17, 23, 36]), r.edge());
+        m.dynamic[at] = (r.pick(&[17, 23]), r.edge());
         refused(6, at)
     }),
     damage(6, "tags beside the refused", |m, r| {
         let at = m.free_entry(r)?;
-        let beside = [16, 18, 22, 24, 35, 37, 17 + (1 << 32), 23 + (1 << 63), 36 + (1 << 40)];
+        let beside = [16, 18, 22, 24, 34, 38, 17 + (1 << 32), 23 + (1 << 63), 36 + (1 << 40)];
         m.dynamic[at] = (r.pick(&beside), r.edge());
         Some(Taken)
     }),
@@ -655,10 +761,32 @@ pub const DAMAGES: &[Damage] = &[
         refused(6, m.null())
     }),
     damage(6, "globals partner", |m, r| lost(m, r, &[GLOBALS, GLOBALSSZ])),
+    damage(6, "RELRSZ", |m, r| value(m, r, RELRSZ, &[1, 4, 7, 9, 12, 8 * 1024 + 4, u64::MAX])),
+    damage(6, "RELRENT", |m, r| value(m, r, RELRENT, &[0, 4, 7, 9, 16, 24, 8 + (1 << 32)])),
+    damage(6, "RELR partner", |m, r| lost(m, r, &[RELR, RELRSZ, RELRENT])),
+    damage(6, "two RELR partners", |m, r| {
+        let group = [RELR, RELRSZ, RELRENT];
+        let kept = r.pick(&group);
+        for tag in group {
+            let at = m.entry(tag)?;
+            if tag != kept {
+                m.dynamic[at].0 = 0x6fff_e000;
+            }
+        }
+        refused(6, m.null())
+    }),
+    damage(6, "no RELR", |m, _| {
+        for tag in [RELR, RELRSZ, RELRENT] {
+            let at = m.entry(tag)?;
+            m.dynamic[at].0 += 0x6fff_e000;
+        }
+        m.packed.clear();
+        Some(Taken)
+    }),
     damage(6, "known after the end", |m, r| {
         let null = m.null();
         given(null + 1 < m.dynamic.len())?;
-        m.dynamic[null + 1] = (r.pick(&[17, 23, 36, SYMTAB, RELA, GLOBALS]), r.word());
+        m.dynamic[null + 1] = (r.pick(&[17, 23, RELR, RELRSZ, SYMTAB, RELA, GLOBALS]), r.word());
         Some(Taken)
     }),
     damage(6, "ends early", |m, r| {
@@ -668,7 +796,9 @@ pub const DAMAGES: &[Damage] = &[
         let lone = has(SYMTAB) != has(SYMENT)
             || has(GLOBALS) != has(GLOBALSSZ)
             || has(RELA) != has(RELASZ)
-            || has(RELA) != has(RELAENT);
+            || has(RELA) != has(RELAENT)
+            || has(RELR) != has(RELRSZ)
+            || has(RELR) != has(RELRENT);
         if lone {
             refused(6, at)
         } else {
@@ -678,7 +808,7 @@ pub const DAMAGES: &[Damage] = &[
     damage(6, "two bad", |m, r| {
         let (a, b) = (m.free_entry(r)?, m.free_entry(r)?);
         m.dynamic[a].0 = 17;
-        m.dynamic[b].0 = 36;
+        m.dynamic[b].0 = 23;
         refused(6, a.min(b))
     }),
     damage(6, "bad and no partner", |m, r| {
@@ -687,28 +817,30 @@ pub const DAMAGES: &[Damage] = &[
         m.dynamic[at].0 = 23;
         refused(6, at)
     }),
-    damage(7, "RELA last byte out", |m, _| table(m, 0, last_byte_out)),
-    damage(7, "RELA first byte out", |m, _| table(m, 0, first_byte_out)),
-    damage(7, "RELA past the file part", |m, _| table(m, 0, past_file_part)),
-    damage(7, "RELA address wraps", |m, _| table(m, 0, at_end_of_words)),
-    damage(7, "RELA size wraps", |m, _| table(m, 0, |h, _| (h.address.max(16), u64::MAX - 15))),
+    damage(7, "RELA last byte out", |m, _| table(m, Relocations, last_byte_out)),
+    damage(7, "RELA first byte out", |m, _| table(m, Relocations, first_byte_out)),
+    damage(7, "RELA past the file part", |m, _| table(m, Relocations, past_file_part)),
+    damage(7, "RELA address wraps", |m, _| table(m, Relocations, at_end_of_words)),
+    damage(7, "RELA size wraps", |m, _| {
+        table(m, Relocations, |h, _| (h.address.max(16), u64::MAX - 15))
+    }),
     damage(7, "RELA empty anywhere", |m, r| {
         m.set(RELA, r.edge())?;
         m.set(RELASZ, 0);
         m.relocations.clear();
         Some(Taken)
     }),
-    damage(7, "globals last byte out", |m, _| table(m, 1, last_byte_out)),
+    damage(7, "globals last byte out", |m, _| table(m, Descriptors, last_byte_out)),
     damage(7, "globals first byte out", |m, _| {
         given(m.descriptors.len() > 1)?;
-        table(m, 1, first_byte_out)
+        table(m, Descriptors, first_byte_out)
     }),
-    damage(7, "globals past the file part", |m, _| table(m, 1, past_file_part)),
-    damage(7, "globals address wraps", |m, _| table(m, 1, at_end_of_words)),
+    damage(7, "globals past the file part", |m, _| table(m, Descriptors, past_file_part)),
+    damage(7, "globals address wraps", |m, _| table(m, Descriptors, at_end_of_words)),
     damage(7, "globals size wraps", |m, _| {
-        table(m, 1, |h, _| (h.address.max(1), 0u64.wrapping_sub(h.address.max(1))))
+        table(m, Descriptors, |h, _| (h.address.max(1), 0u64.wrapping_sub(h.address.max(1))))
     }),
-    damage(7, "globals size far", |m, _| table(m, 1, |h, _| (h.address, u64::MAX))),
+    damage(7, "globals size far", |m, _| table(m, Descriptors, |h, _| (h.address, u64::MAX))),
     damage(7, "globals empty anywhere", |m, r| {
         m.set(GLOBALS, r.edge())?;
         m.set(GLOBALSSZ, 0);
@@ -718,8 +850,74 @@ pub const DAMAGES: &[Damage] = &[
         Some(Taken)
     }),
     damage(7, "both", |m, _| {
-        table(m, 1, last_byte_out)?;
-        table(m, 0, last_byte_out)
+        table(m, Descriptors, last_byte_out)?;
+        table(m, Relocations, last_byte_out)
+    }),
+    damage(7, "globals, and a bitmap first", |m, _| {
+        before(m, &[3])?;
+        table(m, Descriptors, last_byte_out)
+    }),
+    damage(15, "packed last byte out", |m, _| table(m, Packed, last_byte_out)),
+    damage(15, "packed first byte out", |m, _| table(m, Packed, first_byte_out)),
+    damage(15, "packed past the file part", |m, _| table(m, Packed, past_file_part)),
+    damage(15, "packed address wraps", |m, _| table(m, Packed, at_end_of_words)),
+    damage(15, "packed size wraps", |m, _| {
+        table(m, Packed, |h, _| (h.address.max(16), u64::MAX - 15))
+    }),
+    damage(15, "packed empty anywhere", |m, r| {
+        m.set(RELR, r.edge())?;
+        given(m.put_packed(Vec::new()))?;
+        Some(Taken)
+    }),
+    damage(15, "a bitmap first", |m, r| {
+        let bitmap = r.pick(&[1, 3, u64::MAX, 1 << 63 | 1, 0x1001]);
+        before(m, &[bitmap])?;
+        refused(15, 0)
+    }),
+    damage(15, "the first place made odd", |m, _| {
+        *m.packed.first_mut()? |= 1;
+        refused(15, 0)
+    }),
+    damage(15, "a bitmap alone", |m, r| {
+        let bitmap = r.pick(&[1, 3]);
+        given(m.put_packed(vec![bitmap]))?;
+        refused(15, 0)
+    }),
+    damage(15, "bitmaps of 63 bits, too many", |m, r| {
+        let place = *m.packed.first()?;
+        bitmaps(m, r, place, 63)
+    }),
+    damage(15, "bitmaps of many bits, too many", |m, r| {
+        let (place, bits) = (*m.packed.first()?, r.from(40, 62) as u32);
+        bitmaps(m, r, place, bits)
+    }),
+    damage(15, "too many, no place good", |m, r| {
+        let place = r.pick(&[2, 0x1004, 1 << 48, 1 << 63, 0u64.wrapping_sub(8)]);
+        bitmaps(m, r, place, 63)
+    }),
+    damage(15, "too many by one", |m, r| {
+        // The last bitmap has the bit that goes past.
+        given(m.packed_room.size >= 8 * 20)?;
+        let free = (MOST - 1).checked_sub(m.relocations.len())?;
+        let mut words = vec![*m.packed.first()?];
+        words.extend(vec![u64::MAX; free / 63]);
+        let last = free % 63;
+        words.extend([u64::MAX >> (63 - last), 1, 1, 3]);
+        let extra = r.index(3);
+        words.extend(vec![1; extra]);
+        given(words.len() <= (m.packed_room.size / 8) as usize)?;
+        let passed = words.iter().rposition(|&word| word == 3)?;
+        given(passing(m.relocations.len(), &words) == Some(passed))?;
+        too_many(m, words)
+    }),
+    damage(15, "a bitmap first, and too many", |m, r| {
+        given(m.put_packed(vec![u64::MAX; r.from(17, 30) as usize]))?;
+        refused(15, 0)
+    }),
+    damage(15, "and a descriptor cut", |m, r| {
+        bad_number(m, r, &[0x80])?;
+        before(m, &[1])?;
+        refused(15, 0)
     }),
     damage(8, "first cut", |m, r| {
         let cut: &[u8] = r.pick(&[&[0x80], &[0x81], &[0xff, 0xff], &NINE, &[0x80; 9]]);
@@ -1007,6 +1205,117 @@ pub const DAMAGES: &[Damage] = &[
         m.relocations[i].place = m.relocations[j].place;
         Some(Taken)
     }),
+    damage(11, "packed, not a multiple of 8", |m, r| {
+        let even: Vec<usize> = (0..m.packed.len()).filter(|&i| m.packed[i] % 2 == 0).collect();
+        let i = one(r, &even)?;
+        m.packed[i] += r.pick(&[2, 4, 6]);
+        refused(11, m.relocations.len() + i)
+    }),
+    damage(11, "packed, after the last load", |m, r| {
+        let place = m.last_end().div_ceil(8) * 8;
+        bad_packed(m, r, place)
+    }),
+    damage(11, "packed, one past a load", |m, r| {
+        let load = any_load(m, r)?;
+        bad_packed(m, r, load.end().saturating_sub(7).div_ceil(8) * 8)
+    }),
+    damage(11, "packed, last in a load", |m, r| {
+        let load = any_load(m, r)?;
+        taken_packed(m, r, load.end().checked_sub(8)? / 8 * 8)
+    }),
+    damage(11, "packed, first in a load", |m, r| {
+        let load = any_load(m, r)?;
+        taken_packed(m, r, load.address.div_ceil(8) * 8)
+    }),
+    damage(11, "packed, one before a load", |m, r| {
+        let load = any_load(m, r)?;
+        bad_packed(m, r, load.address.div_ceil(8).checked_sub(1)? * 8)
+    }),
+    damage(11, "packed, past the file part", |m, r| {
+        let load = any_load(m, r)?;
+        taken_packed(m, r, load.file_end().div_ceil(8) * 8)
+    }),
+    damage(11, "packed, over the file part's end", |m, r| {
+        let (place, bytes) = seam(m, r)?;
+        let loaded = r.word() & u64::MAX >> (64 - 8 * bytes);
+        let loaded = if r.once_in(2) { loaded } else { loaded % m.memory.max(1) };
+        given(loaded <= m.highest())?;
+        free_packed(m, r, place, loaded)?;
+        Some(Taken)
+    }),
+    damage(11, "packed, near 2^64 with bitmaps", |m, r| {
+        let place = r.pick(&[u64::MAX - 7, u64::MAX - 15, 1 << 63, u64::MAX - 503]);
+        let i = after(m, &[place, r.word() | 1])?;
+        refused(11, m.relocations.len() + i)
+    }),
+    damage(11, "packed, read-only load", |m, r| {
+        let load = any_load(m, r)?;
+        let first = load.address.div_ceil(8) * 8;
+        given(first + 8 <= load.end())?;
+        let place = first + r.below((load.end() - first) / 8) * 8;
+        bad_packed(m, r, place)
+    }),
+    damage(11, "packed, a bit past a load", |m, r| {
+        let load = any_load(m, r)?;
+        let last = load.end().checked_sub(8)? / 8 * 8;
+        let first = last.checked_sub(r.below(62) * 8)?;
+        let beyond = (last - first) / 8;
+        given(first >= load.address && !used(m, first) && holds_place(m, first))?;
+        given(!holds_place(m, last + 8))?;
+        let i = after(m, &[first, 1 | 2 << beyond])?;
+        refused(11, m.relocations.len() + i + 1)
+    }),
+    damage(11, "packed, as a RELA entry's", |m, r| {
+        let place = m.relocations[one(r, &m.live())?].place;
+        let i = after(m, &[place])?;
+        refused(11, m.relocations.len() + i)
+    }),
+    damage(11, "packed, a bit as a RELA entry's", |m, r| {
+        let place = m.relocations[one(r, &m.live())?].place;
+        let (bit, run) = (r.below(63), r.below(2));
+        let first = place.checked_sub(8 * (bit + 1) + 504 * run)?;
+        given(!used(m, first) && holds_place(m, first))?;
+        let mut words = vec![first];
+        words.extend(vec![1; run as usize]);
+        words.push(1 | 2 << bit);
+        let i = after(m, &words)?;
+        refused(11, m.relocations.len() + i + words.len() - 1)
+    }),
+    damage(11, "packed, repeated", |m, r| {
+        let places = unpack(&m.packed);
+        given(!places.is_empty())?;
+        let place = r.pick(&places).1 as u64;
+        let i = after(m, &[place])?;
+        refused(11, m.relocations.len() + i)
+    }),
+    damage(11, "packed, a bit repeated", |m, r| {
+        let places = unpack(&m.packed);
+        given(!places.is_empty())?;
+        let place = r.pick(&places).1 as u64;
+        let first = place.checked_sub(8)?;
+        given(!used(m, first) && holds_place(m, first))?;
+        let i = after(m, &[first, 3])?;
+        refused(11, m.relocations.len() + i + 1)
+    }),
+    damage(11, "packed, as a skipped entry's", |m, r| {
+        let skipped: Vec<usize> =
+            (0..m.relocations.len()).filter(|&i| m.relocations[i].kind == NONE).collect();
+        let places = unpack(&m.packed);
+        given(!places.is_empty())?;
+        m.relocations[one(r, &skipped)?].place = r.pick(&places).1 as u64;
+        Some(Taken)
+    }),
+    damage(11, "packed and RELA", |m, r| {
+        bad_packed(m, r, 4)?;
+        let i = one(r, &m.live())?;
+        m.relocations[i].place = 12;
+        refused(11, i)
+    }),
+    damage(11, "two packed", |m, r| {
+        let i = after(m, &[LARGEST, LARGEST])?;
+        *m.packed.last_mut()? = r.pick(&[2, 4, 1 << 63]);
+        refused(11, m.relocations.len() + i)
+    }),
     damage(12, "memory below the end", |m, _| {
         let memory = (m.last_end() - 1) / 16 * 16;
         sized(m, memory, FIT)
@@ -1154,6 +1463,39 @@ pub const DAMAGES: &[Damage] = &[
         let i = aim(m, r, -1)?;
         let j = aim(m, r, TOP)?;
         refused(13, i.min(j))
+    }),
+    damage(13, "packed, address 2^48", |m, r| missed_packed(m, r, m.highest() + 1)),
+    damage(13, "packed, address 2^48 - 1", |m, r| met_packed(m, r, m.highest())),
+    damage(13, "packed, address past 2^64", |m, r| {
+        let loaded = 0u64.wrapping_sub(m.bias).wrapping_add(r.below(9));
+        missed_packed(m, r, loaded)
+    }),
+    damage(13, "packed, loaded -1 and others", |m, r| {
+        let loaded = r.pick(&[u64::MAX, 0u64.wrapping_sub(16), 0u64.wrapping_sub(4096), 1 << 63]);
+        missed_packed(m, r, loaded)
+    }),
+    damage(13, "packed, a global's ends", |m, r| {
+        given(!m.globals.is_empty())?;
+        let g = r.pick(&m.globals);
+        let loaded = r.pick(&[g.start, g.end() - 1, g.end(), g.start.saturating_sub(1)]);
+        met_packed(m, r, loaded)
+    }),
+    damage(13, "packed, over the file part's end", |m, r| {
+        let (place, bytes) = seam(m, r)?;
+        given(bytes == 7)?;
+        let loaded = r.from(1, 255) << 48;
+        let at = free_packed(m, r, place, loaded)?;
+        given(m.loaded(&m.call().file, place) == loaded)?;
+        refused(13, at)
+    }),
+    damage(13, "packed and RELA", |m, r| {
+        missed_packed(m, r, ADDRESS_END)?;
+        missed(m, r, -1)
+    }),
+    damage(13, "two packed", |m, r| {
+        let a = aim_packed(m, r, ADDRESS_END)?;
+        let b = aim_packed(m, r, u64::MAX)?;
+        refused(13, a.min(b))
     }),
     damage(13, "weak undefined at granule 0", |m, r| {
         // A global at granule 0 and bias 0: the word must still have tag 0.

@@ -67,19 +67,24 @@ fn label(damage: &Damage) -> String {
 fn single(r: &mut Random, damage: &Damage) -> Case {
     for _ in 0..20_000 {
         let mut module = Module::random(r);
-        if let Some(expected) = (damage.apply)(&mut module, r) {
-            return Case { name: label(damage), call: module.call(), expected };
+        let Some(expected) = (damage.apply)(&mut module, r) else { continue };
+        // The damage may have changed what is loaded at a packed place.
+        let late = matches!(expected, Expected::Taken | Expected::Refused(14, _));
+        if late && !module.unfit().is_empty() {
+            continue;
         }
+        return Case { name: label(damage), call: module.call(), expected };
     }
     panic!("no module for {}", label(damage));
 }
 
-/// Checks that come from one walk have one stage.
+/// The order of the checks; those that come from one walk have one stage.
 fn stage(row: u8) -> u8 {
     match row {
-        9 => 8,
-        11 => 10,
-        _ => row,
+        15 => 2 * 7 + 1,
+        9 => 2 * 8,
+        11 => 2 * 10,
+        _ => 2 * row,
     }
 }
 
@@ -91,7 +96,7 @@ fn refuses(expected: Expected) -> bool {
 fn double(r: &mut Random) -> Case {
     loop {
         let mut pair = [&DAMAGES[r.index(DAMAGES.len())], &DAMAGES[r.index(DAMAGES.len())]];
-        pair.sort_by_key(|d| d.row);
+        pair.sort_by_key(|d| (stage(d.row), d.row));
         let [early, late] = pair;
         let mut module = Module::random(r);
         let Some(second) = (late.apply)(&mut module, r) else { continue };
@@ -112,10 +117,20 @@ fn blind(r: &mut Random) -> Case {
         let count = r.below(module.descriptor_room.size + 1) as usize;
         module.put_descriptors(noise(r, count));
     }
+    if r.once_in(6) {
+        let count = r.below(module.packed_room.size / 8 + 1) as usize;
+        let words = packed_noise(r, &module, count);
+        module.put_packed(words);
+    }
     let mut call = module.call();
     let length = call.file.len();
-    let rooms =
-        [module.dynamic_room, module.descriptor_room, module.symbol_room, module.relocation_room];
+    let rooms = [
+        module.dynamic_room,
+        module.descriptor_room,
+        module.symbol_room,
+        module.relocation_room,
+        module.packed_room,
+    ];
     let name = match r.below(7) {
         0 => {
             for _ in 0..r.from(1, 4) {
@@ -188,6 +203,19 @@ fn blind(r: &mut Random) -> Case {
 fn noise(r: &mut Random, count: usize) -> Vec<u8> {
     let often = [0, 1, 2, 7, 8, 9, 0x10, 0x80, 0x81, 0x88, 0xff];
     (0..count).map(|_| if r.once_in(4) { r.word() as u8 } else { r.pick(&often) }).collect()
+}
+
+/// Words that are often places of the module, or bitmaps of few bits.
+fn packed_noise(r: &mut Random, module: &Module, count: usize) -> Vec<u64> {
+    let end = module.last_end() + 64;
+    let word = |_| match r.below(8) {
+        0 => r.edge(),
+        1 => r.word() | 1,
+        2 | 3 => 1 | 2 << r.below(63) | r.below(2) << r.below(64),
+        4 => 1,
+        _ => r.below(end) & !7,
+    };
+    (0..count).map(word).collect()
 }
 
 /// The arguments of one call of the descriptor reader alone.

@@ -3,7 +3,8 @@
 use crate::answers::Call;
 pub use crate::headers::Header;
 use crate::random::Random;
-use crate::{ADDRESS_END, LARGEST, PAGE};
+use crate::{ADDRESS_END, LARGEST, MOST, PAGE};
+use std::collections::BTreeSet;
 
 pub const LOAD: u32 = 1;
 pub const DYNAMIC: u32 = 2;
@@ -12,6 +13,9 @@ pub const RELA: u64 = 7;
 pub const RELASZ: u64 = 8;
 pub const RELAENT: u64 = 9;
 pub const SYMENT: u64 = 11;
+pub const RELRSZ: u64 = 35;
+pub const RELR: u64 = 36;
+pub const RELRENT: u64 = 37;
 pub const MODE: u64 = 0x7000_0009;
 pub const HEAP: u64 = 0x7000_000b;
 pub const STACK: u64 = 0x7000_000c;
@@ -22,11 +26,13 @@ pub const ABS64: u32 = 257;
 pub const GLOB_DAT: u32 = 1025;
 pub const RELATIVE: u32 = 1027;
 
-pub const KNOWN: [u64; 10] =
-    [SYMTAB, SYMENT, RELA, RELASZ, RELAENT, MODE, HEAP, STACK, GLOBALS, GLOBALSSZ];
+pub const KNOWN: [u64; 13] = [
+    SYMTAB, SYMENT, RELA, RELASZ, RELAENT, RELR, RELRSZ, RELRENT, MODE, HEAP, STACK, GLOBALS,
+    GLOBALSSZ,
+];
 
-/// Tags that are passed over.
-pub const PASSED: [u64; 18] = [
+/// Tags that are passed over, Android's own packed tables among them.
+pub const PASSED: [u64; 22] = [
     1,
     2,
     5,
@@ -38,13 +44,17 @@ pub const PASSED: [u64; 18] = [
     24,
     25,
     30,
-    35,
-    37,
+    34,
+    38,
+    0x6000_0011,
+    0x6fff_e000,
+    0x6fff_e001,
     0x6fff_fffb,
     0x7000_000a,
     0x7000_000e,
     (1 << 32) + 7,
     (1 << 32) + 17,
+    (1 << 32) + 36,
 ];
 
 impl Header {
@@ -88,6 +98,9 @@ impl Global {
     }
 }
 
+/// Dynamic entries, descriptors, symbols, RELA entries and packed words.
+const TABLES: usize = 5;
+
 /// A table: its room in the file and in the address space, and the header that backs it.
 #[derive(Clone, Copy, Default)]
 pub struct Room {
@@ -121,6 +134,8 @@ pub struct Module {
     pub symbols: Vec<Symbol>,
     pub relocation_room: Room,
     pub relocations: Vec<Rela>,
+    pub packed_room: Room,
+    pub packed: Vec<u64>,
     pub words: Vec<(u64, u64)>,
     pub resize: Option<usize>,
     pub bias: u64,
@@ -141,6 +156,10 @@ pub struct Shape {
     pub globals: Option<usize>,
     pub short_globals: bool,
     pub relocations: Option<usize>,
+    /// Packed places.
+    pub packed: Option<usize>,
+    /// Words that the packed table has room for.
+    pub packed_words: Option<usize>,
     pub spare: Option<bool>,
     /// Bytes of memory after each file part.
     pub bss: Option<u64>,
@@ -173,6 +192,66 @@ pub fn descriptor(r: &mut Random, distance: u64, granules: u64, plain: bool) -> 
     let mut out = uleb(distance << 3, first);
     out.extend(uleb(granules - 1, second));
     out
+}
+
+/// The places that packed words name, each with the index of its word: bit by bit, on exact numbers.
+pub fn unpack(words: &[u64]) -> Vec<(usize, u128)> {
+    let (mut places, mut run) = (Vec::new(), 0);
+    for (i, &word) in words.iter().enumerate() {
+        if word % 2 == 0 {
+            places.push((i, u128::from(word)));
+            run = u128::from(word) + 8;
+        } else {
+            let named = (1..64).filter(|bit| word >> bit & 1 == 1);
+            places.extend(named.map(|bit| (i, run + 8 * (bit - 1))));
+            run += 504;
+        }
+    }
+    places
+}
+
+/// The packed word at which so many entries and the places named are more than the most.
+pub fn passing(entries: usize, words: &[u64]) -> Option<usize> {
+    unpack(words).get(MOST - entries.min(MOST)).map(|place| place.0)
+}
+
+/// Words that name rising places: rows of them, not always in order, and empty bitmaps. A row for
+/// which there is no room is left out.
+fn pack(r: &mut Random, places: &[u64], room: usize) -> Vec<u64> {
+    let mut rows: Vec<Vec<u64>> = Vec::new();
+    for &place in places {
+        match rows.last_mut() {
+            Some(row) if !r.once_in(10) => row.push(place),
+            _ => rows.push(vec![place]),
+        }
+    }
+    if r.once_in(2) {
+        r.shuffle(&mut rows);
+    }
+    let mut words = Vec::new();
+    for row in rows {
+        let (mut out, mut run) = (vec![row[0]], row[0] + 8);
+        let mut rest = &row[1..];
+        while let Some(&next) = rest.first() {
+            let window = run..run + 504;
+            if next >= run + 4 * 504 || r.once_in(12) {
+                out.push(next);
+                run = next + 8;
+                rest = &rest[1..];
+                continue;
+            }
+            let here = rest.iter().filter(|&place| window.contains(place));
+            out.push(here.fold(1, |word, place| word | 2 << ((place - run) / 8)));
+            rest = &rest[rest.iter().filter(|&place| window.contains(place)).count()..];
+            run = window.end;
+        }
+        let empty = r.pick(&[0, 0, 0, 0, 1, 2, 9]);
+        out.extend(vec![1; empty]);
+        if words.len() + out.len() <= room {
+            words.extend(out);
+        }
+    }
+    words
 }
 
 fn up(value: u64, to: u64) -> u64 {
@@ -221,21 +300,28 @@ impl Module {
         let wanted_relocations = shape.relocations.unwrap_or_else(|| r.below(14) as usize);
         let symbols = if shape.relocations.is_none() && r.once_in(6) { 0 } else { r.from(2, 9) };
         let entries = shape.entries.unwrap_or_else(|| 14 + r.below(10) as usize);
+        let packed = match (shape.packed_words, shape.packed, shape.relocations) {
+            (Some(words), _, _) => words,
+            (_, Some(places), _) => 2 * places + 64,
+            (_, _, Some(_)) => 0,
+            _ => r.pick(&[0, 0, 0, 2, 6, 12, 30]),
+        };
         let sizes = [
             entries as u64 * 16,
             wanted_globals as u64 * if shape.short_globals { 1 } else { 20 } + 16,
             symbols * 24,
             wanted_relocations as u64 * 24,
+            packed as u64 * 8,
         ];
-        let mut rooms = [Room::default(); 4];
+        let mut rooms = [Room::default(); TABLES];
         let writable = r.index(loads);
         let covers_headers = r.once_in(2);
         let front = 64 + 56 * count as u64;
         let headers_first = covers_headers || !r.once_in(4);
         let mut list: Vec<Header> = Vec::new();
-        let mut homes: Vec<usize> = (0..4).map(|_| r.index(loads)).collect();
+        let mut homes: Vec<usize> = (0..TABLES).map(|_| r.index(loads)).collect();
         if r.once_in(3) {
-            homes = vec![r.index(loads); 4];
+            homes = vec![r.index(loads); TABLES];
         }
         // Offsets grow with addresses; all loads hold tables and data in random order.
         let mut offset = if headers_first { front } else { 64 };
@@ -264,10 +350,11 @@ impl Module {
                 offset += r.below(9);
             }
             let mut inner = if i == 0 && covers_headers { front } else { 0 };
-            let mut chunks: Vec<usize> = (0..4).filter(|&t| homes[t] == i).chain([4, 5]).collect();
+            let mut chunks: Vec<usize> =
+                (0..TABLES).filter(|&t| homes[t] == i).chain([TABLES, TABLES + 1]).collect();
             r.shuffle(&mut chunks);
             for chunk in chunks {
-                if chunk < 4 {
+                if chunk < TABLES {
                     if !r.once_in(4) {
                         inner = up(address + inner, 8) - address;
                     }
@@ -280,8 +367,9 @@ impl Module {
                     inner += sizes[chunk];
                 } else {
                     inner += r.below(40) * r.pick(&[8, 8, 8, 1, 0]);
-                    if i == writable && chunk == 4 {
+                    if i == writable && chunk == TABLES {
                         inner += wanted_relocations as u64 * 16 + 64;
+                        inner += shape.packed.map_or(packed as u64 * 16, |n| n as u64 * 12);
                     }
                 }
             }
@@ -386,6 +474,8 @@ impl Module {
             symbols: Vec::new(),
             relocation_room: rooms[3],
             relocations: Vec::new(),
+            packed_room: rooms[4],
+            packed: Vec::new(),
             words: Vec::new(),
             resize: shape.file_length,
             bias: 0,
@@ -403,6 +493,7 @@ impl Module {
         m.make_symbols(r, symbols as usize);
         m.make_dynamic(r, entries, shape.null_last);
         m.make_relocations(r, wanted_relocations, shape.relocations.is_some());
+        m.make_packed(r, shape.packed);
         m.make_choices(r);
         m
     }
@@ -459,6 +550,12 @@ impl Module {
                 entry.addend = entry.addend.checked_sub(moved)?;
             }
         }
+        let packed: Vec<u128> = unpack(&self.packed).into_iter().map(|(_, place)| place).collect();
+        for (place, word) in &mut self.words {
+            if packed.contains(&u128::from(*place)) && *word >= ADDRESS_END - bias {
+                *word = word.checked_add_signed(-moved)?;
+            }
+        }
         self.bias = bias;
         Some(())
     }
@@ -511,6 +608,11 @@ impl Module {
             let address = if size == 0 { r.edge() } else { room.address };
             list.extend([(RELA, address), (RELASZ, size), (RELAENT, 24)]);
         }
+        let room = self.packed_room;
+        if room.size > 0 || r.once_in(3) {
+            let address = if room.size == 0 { r.edge() } else { room.address };
+            list.extend([(RELR, address), (RELRSZ, 0), (RELRENT, 8)]);
+        }
         for tag in [MODE, HEAP, STACK] {
             if !r.once_in(3) {
                 list.push((tag, r.below(2)));
@@ -538,7 +640,7 @@ impl Module {
         r.shuffle(&mut list);
         list.push((0, r.word()));
         while list.len() < entries {
-            list.push((r.pick(&[0, 17, 23, 36, RELA, MODE, 5, SYMENT]), r.word()));
+            list.push((r.pick(&[0, 17, 23, RELR, RELRSZ, RELA, MODE, 5, SYMENT]), r.word()));
         }
         self.dynamic = list;
     }
@@ -635,6 +737,111 @@ impl Module {
             _ => target.wrapping_sub(entry.addend),
         };
         self.words.push((entry.place, offset as u64));
+    }
+
+    /// Packed places, in clusters or exactly so many, and the words that name them.
+    fn make_packed(&mut self, r: &mut Random, exactly: Option<usize>) {
+        let room = (self.packed_room.size / 8) as usize;
+        let used: BTreeSet<u64> =
+            self.live().into_iter().map(|i| self.relocations[i].place).collect();
+        let mut free: Vec<u64> = Vec::new();
+        for load in self.used_loads().into_iter().map(|i| &self.headers[i]) {
+            if load.writable() && load.memory_size >= 8 {
+                let slots = (up(load.address, 8)..load.end() - 7).step_by(8);
+                free.extend(slots.filter(|place| !used.contains(place)));
+            }
+        }
+        if room == 0 || free.is_empty() || exactly == Some(0) {
+            return;
+        }
+        let mut places = BTreeSet::new();
+        if exactly.is_none() {
+            for _ in 0..r.from(1, 3) {
+                let (first, slots) = (r.index(free.len()), r.pick(&[1, 2, 8, 70, 140]));
+                let one_in = r.pick(&[1, 1, 2, 8, 30]);
+                let row = free[first..].iter().take(slots).filter(|_| r.once_in(one_in));
+                places.extend(row.copied());
+            }
+            if r.once_in(3) {
+                // The last slots of a load, where its file part may have ended.
+                places.insert(free[free.len() - 1 - r.index(free.len().min(9))]);
+            }
+        }
+        r.shuffle(&mut free);
+        for &place in &places {
+            self.make_loaded(r, place);
+        }
+        // A place whose loaded bytes are those of a table may be out of range.
+        loop {
+            while exactly.is_some_and(|n| places.len() < n) {
+                let place = free.pop().expect("room for all places");
+                self.make_loaded(r, place);
+                places.insert(place);
+            }
+            let list: Vec<u64> = places.iter().copied().collect();
+            let words = pack(r, &list, room);
+            self.put_packed(words);
+            let unfit = self.unfit();
+            if unfit.is_empty() {
+                break;
+            }
+            unfit.iter().for_each(|(_, place)| _ = places.remove(place));
+        }
+        let named = unpack(&self.packed).len();
+        assert!(exactly.is_none_or(|n| n == named), "{named} places");
+    }
+
+    /// The highest loaded bytes whose address is in range.
+    pub fn highest(&self) -> u64 {
+        (ADDRESS_END - 1).saturating_sub(self.bias)
+    }
+
+    /// What is loaded at a packed place: in and around globals, and up to the last address.
+    fn make_loaded(&mut self, r: &mut Random, place: u64) {
+        let highest = self.highest();
+        let loaded = match r.below(12) {
+            0 => 0,
+            1 => highest,
+            2 => r.below(self.memory + 64),
+            3 => r.below(highest),
+            _ => self.spot(r),
+        };
+        self.words.push((place, loaded.min(highest)));
+    }
+
+    /// Other packed words; false where they do not fit.
+    pub fn put_packed(&mut self, words: Vec<u64>) -> bool {
+        let size = 8 * words.len() as u64;
+        if size > self.packed_room.size || self.set(RELRSZ, size).is_none() {
+            return false;
+        }
+        self.packed = words;
+        true
+    }
+
+    /// The bytes at a place as they are loaded.
+    pub fn loaded(&self, file: &[u8], place: u64) -> u64 {
+        let held = |i: &usize| self.headers[*i].address <= place && place < self.headers[*i].end();
+        let Some(i) = self.loads().into_iter().find(held) else { return 0 };
+        let load = &self.headers[i];
+        (0..8).fold(0, |word, k| {
+            let at = (load.offset + (place - load.address) + k) as usize;
+            let byte = if place + k < load.file_end() { file[at] } else { 0 };
+            word | u64::from(byte) << (8 * k)
+        })
+    }
+
+    /// The packed places that are in range and whose addresses are not, with the indexes of their words.
+    pub fn unfit(&self) -> Vec<(usize, u64)> {
+        if self.packed.is_empty() {
+            return Vec::new();
+        }
+        let file = self.call().file;
+        let places = unpack(&self.packed).into_iter().filter(|p| p.1 < LARGEST.into());
+        places
+            .map(|(i, place)| (i, place as u64))
+            .filter(|p| self.loaded(&file, p.1) > self.highest())
+            .collect()
     }
 
     pub fn make_choices(&mut self, r: &mut Random) {
@@ -791,6 +998,10 @@ impl Module {
             Module::put(&mut file, at, &e.place.to_le_bytes());
             Module::put(&mut file, at + 8, &info.to_le_bytes());
             Module::put(&mut file, at + 16, &e.addend.to_le_bytes());
+        }
+        for (i, word) in self.packed.iter().enumerate() {
+            let at = self.packed_room.offset as usize + 8 * i;
+            Module::put(&mut file, at, &word.to_le_bytes());
         }
         for (i, h) in self.headers.iter().enumerate() {
             let at = self.headers_offset + 56 * i;

@@ -37,6 +37,59 @@ fn many_relocations(r: &mut Random, count: usize) -> Module {
     Module::shaped(r, &Shape { relocations: Some(count), ..Shape::default() })
 }
 
+/// So many relocations, of which some are skipped, and so many packed places.
+fn both(r: &mut Random, relocations: usize, skipped: usize, packed: usize) -> (Call, Expected) {
+    let shape = Shape { relocations: Some(relocations), packed: Some(packed), ..Shape::default() };
+    let mut m = Module::shaped(r, &shape);
+    for i in 0..skipped {
+        m.relocations[7 * i].kind = NONE;
+    }
+    let passed = passing(relocations, &m.packed);
+    assert_eq!(passed.is_some(), relocations + packed > MOST);
+    (m.call(), passed.map_or(Taken, |word| Refused(15, word as u64)))
+}
+
+/// A place, a row of empty bitmaps, a bitmap of one bit that names another place, and more words. Both
+/// places are past the file part, where zeros are loaded.
+fn long_row(r: &mut Random, row: usize, more: &[u64]) -> Module {
+    let shape = Shape {
+        loads: Some(1),
+        packed: Some(1),
+        packed_words: Some(row + 2 + more.len()),
+        bss: Some(504 * row as u64 + 1_024),
+        ..Shape::default()
+    };
+    loop {
+        let mut m = Module::shaped(r, &shape);
+        let end = m.headers[m.loads()[0]].end();
+        let mut words = vec![1; row + 1];
+        words[0] = (end - 504 * (row as u64 + 1) - 16) / 8 * 8;
+        words.push(1 | 2 << r.below(63));
+        let places = unpack(&words);
+        let used = |e: &Rela| places.iter().any(|place| place.1 == e.place.into());
+        if !m.relocations.iter().any(used) {
+            words.extend(more);
+            assert!(m.put_packed(words));
+            return m;
+        }
+    }
+}
+
+/// A place, as many empty bitmaps as a file has room for, and more words; their first index.
+fn longest_row(r: &mut Random, more: &[u64]) -> (Module, u64) {
+    let row = 120_000;
+    let shape = Shape {
+        loads: Some(1),
+        packed: Some(1),
+        packed_words: Some(row + 1 + more.len()),
+        ..Shape::default()
+    };
+    let mut m = Module::shaped(r, &shape);
+    let words = [&m.packed[..1], &vec![1; row], more].concat();
+    assert!(m.put_packed(words));
+    (m, row as u64 + 1)
+}
+
 /// 15 loads, one of which has an align above the others' and above 4,096, and a bias that is a
 /// multiple of it, or of half of it.
 fn one_large_align(r: &mut Random, half: bool) -> Call {
@@ -103,6 +156,42 @@ pub const SPECIALS: &[Special] = &[
         (last.kind, last.symbol, last.addend) = (RELATIVE, 0, -1 - m.bias as i64);
         (m.call(), Refused(13, LAST as u64))
     }),
+    ("1,023 packed places", |r| both(r, 0, 0, LAST)),
+    ("1,024 packed places", |r| both(r, 0, 0, MOST)),
+    ("1,025 packed places", |r| both(r, 0, 0, MOST + 1)),
+    ("1,000 relocations and 24 packed places", |r| both(r, 1_000, 0, 24)),
+    ("1,000 relocations and 25 packed places", |r| both(r, 1_000, 0, 25)),
+    ("1,000 relocations, 9 skipped, and 24 packed places", |r| both(r, 1_000, 9, 24)),
+    ("1,000 relocations, 9 skipped, and 25 packed places", |r| both(r, 1_000, 9, 25)),
+    ("1,024 relocations and a packed place", |r| both(r, MOST, 3, 1)),
+    ("1,024 relocations and no packed place", |r| both(r, MOST, 3, 0)),
+    ("1,024 packed places, the last repeats the first", |r| {
+        let shape = Shape { relocations: Some(0), packed: Some(LAST), ..Shape::default() };
+        let mut m = Module::shaped(r, &shape);
+        let words = [&m.packed[..], &m.packed[..1]].concat();
+        assert!(m.put_packed(words));
+        (m.call(), Refused(11, m.packed.len() as u64 - 1))
+    }),
+    ("1,800 empty bitmaps", |r| (long_row(r, 1_800, &[]).call(), Taken)),
+    ("1,800 empty bitmaps, and a place outside", |r| {
+        let m = long_row(r, 1_800, &[LARGEST]);
+        (m.call(), Refused(11, m.relocations.len() as u64 + 1_802))
+    }),
+    ("1,800 empty bitmaps, and too many places", |r| {
+        let m = long_row(r, 1_800, &[u64::MAX; 17]);
+        let passed = passing(m.relocations.len(), &m.packed).expect("too many places");
+        (m.call(), Refused(15, passed as u64))
+    }),
+    ("120,000 empty bitmaps, and a place outside", |r| {
+        let (m, at) = longest_row(r, &[1 << 32]);
+        (m.call(), Refused(11, m.relocations.len() as u64 + at))
+    }),
+    ("120,000 empty bitmaps, and too many places", |r| {
+        let (m, at) = longest_row(r, &[u64::MAX; 17]);
+        let passed = passing(m.relocations.len(), &m.packed).expect("too many places");
+        assert!(passed as u64 > at);
+        (m.call(), Refused(15, passed as u64))
+    }),
     ("1,023 descriptors", |r| (many_globals(r, LAST).call(), Taken)),
     ("1,024 descriptors", |r| (many_globals(r, MOST).call(), Taken)),
     ("1,025 descriptors", |r| (many_globals(r, MOST + 1).call(), Refused(9, MOST as u64))),
@@ -157,6 +246,8 @@ pub const SPECIALS: &[Special] = &[
                 globals: Some(MOST),
                 short_globals: true,
                 relocations: Some(MOST),
+                packed: None,
+                packed_words: None,
                 spare: Some(false),
                 bss: Some(900_000),
                 level: false,
