@@ -63,7 +63,7 @@ dynamicCases =
     ∷ refused (with sample (header 2 + 16) 8 592) 5 2
     ∷ []
 
--- entries: values that are not allowed; REL, JMPREL, RELR; a repeated tag; a partner missing
+-- entries: values that are not allowed; REL, JMPREL; a repeated tag; a partner missing, RELR's among them
 abbrev pub entryCases : List Case
 entryCases =
     refused (with sample (dynamic 1 + 8) 8 25) 6 1
@@ -74,7 +74,7 @@ entryCases =
     ∷ refused (with (with sample (dynamic 7) 8 0x7000000c) (dynamic 7 + 8) 8 2) 6 7
     ∷ refused (with sample (dynamic 7) 8 17) 6 7
     ∷ refused (with sample (dynamic 7) 8 23) 6 7
-    ∷ refused (with sample (dynamic 7) 8 36) 6 7
+    ∷ refused (with sample (dynamic 7) 8 36) 6 8
     ∷ refused (with sample (dynamic 7) 8 6) 6 7
     ∷ refused (with sample (dynamic 1) 8 30) 6 7
     ∷ refused (with sample (dynamic 4) 8 30) 6 7
@@ -155,6 +155,7 @@ sampleModule = record {
   dynamic = record { at = 232; entries = 7 };
   symbols = Value 408;
   relocations = record { at = 480; entries = 4 };
+  packed = record { at = 0; words = 0; places = 0 };
   descriptors = record { at = 576; bytes = 4 };
   globals = 3;
 }

@@ -152,15 +152,15 @@ bare file at says = record { file = file; bias = at; says = says }
 abbrev withTag : ℕ → ℕ → List ℕ
 withTag tag value = put sample (dynamic 7) (dynamicEntry tag value)
 
--- RELR; the order, where two checks refuse: 3 before 4, 4 before 5, 6 before 7 and 11, 11 before 12, 12 before 13; 13; what it knows nothing
+-- RELR alone; the order, where two checks refuse: 3 before 4, 4 before 5, 6 before 7 and 11, 11 before 12, 12 before 13; 13; what it knows nothing
 -- of: a mode of 2, a descriptor cut short; the bias by the first PT_LOAD's align
 abbrev pub plainCases : List PlainCase
 plainCases =
-    bare (withTag 36 0) bias (refuse 6 7)
+    bare (withTag 36 0) bias (refuse 6 8)
     ∷ bare (with (with sample 16 2 2) (header 1 + 40) 8 47) bias (refuse 3 0)
     ∷ bare (with (with sample (header 1 + 40) 8 47) (header 2) 4 4) bias (refuse 4 1)
     ∷ bare (with (with sample (dynamic 1 + 8) 8 25) (dynamic 2 + 8) 8 520) bias (refuse 6 1)
-    ∷ bare (with (withTag 36 0) (entry 0) 8 660) bias (refuse 6 7)
+    ∷ bare (with (withTag 36 0) (entry 0) 8 660) bias (refuse 6 8)
     ∷ bare (with sample (entry 0) 8 660) 0x40000800 (refuse 11 0)
     ∷ bare (with sample (entry 0 + 16) 8 (minus 0x40000001)) 0x40000800 (refuse 12 0)
     ∷ bare (with sample (entry 0 + 16) 8 (minus 0x40000001)) bias (refuse 13 0)
