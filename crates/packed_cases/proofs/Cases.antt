@@ -44,7 +44,5 @@ packed-cases-hold = record {
   places = refl;
   named = refl;
   addresses = refl;
-  plain-entries = refl;
-  plain-places = refl;
-  plain-addresses = refl;
+  plain-answers = refl;
 }
