@@ -37,7 +37,8 @@ pub refused-once : (p q : Refusal) → answer.Refused p ≡ answer.Refused q →
 refused-once p q e = cc
 
 -- the first fault's mark tells the check
-mark-check : (number : ℕ) (hit : ℕ → Bool) (position : ℕ → ℕ) (n : ℕ) → markCheck number (markOf hit position n) ≡ faultsAt number position hit n
+mark-check : (number : ℕ) (hit : ℕ → Bool) (position : ℕ → ℕ) (n : ℕ)
+    → markCheck number (markOf hit position n) ≡ faultsAt number position hit n
 unfolding markCheck markOf
 mark-check number hit position n = go (eqb (first hit 0 n) n)
   where
@@ -63,7 +64,8 @@ module _ (f : List ℕ) (m : Module) (bias n p : ℕ) (choices : List ℕ) where
   unfolding lentIn addressesCheck
   checks-walked w e =
       let k = walk-found f m bias w e in
-      rw (k .passes, k .outside, mark-check 13 (badAddress f m bias) (positionAt f m) (items m)) (go (lendingCheck f m bias n p) (addressesCheck f m bias) (choicesCheck f m choices))
+      rw (k .passes, k .outside, mark-check 13 (badAddress f m bias) (positionAt f m) (items m))
+      (go (lendingCheck f m bias n p) (addressesCheck f m bias) (choicesCheck f m choices))
     where
       go : (a b c : Check) → andThen a (λ _. andThen b (λ _. c)) ≡ andThen a (λ _. andThen b (λ _. andThen c (λ _. good tt)))
       go (good _) (good _) (good _) = refl

@@ -1,18 +1,18 @@
 -- The packed places of a module are those that its words name: the run before a word is told by the last even word before it.
 -- Assumes nothing.
-use Prim.Native.Nat.{ℕ, zero, suc, _+_, _*_, _-_, _/_, _%_, _^_, _≤_, _<_}
+use Prim.Native.Nat.{ℕ, zero, suc, _+_, _*_, _-_, _/_, _%_, _^_, _<_}
 use mathlib.Core.Path.{_≡_, refl, sym, ap, _∙_, subst}
-use mathlib.Core.Bool.{Bool, true, false, cond, not}
+use mathlib.Core.Bool.{Bool, true, false, cond}
 use mathlib.Core.List.{List, [], _∷_, map}
 use mathlib.Core.Logic.{_⊎_, inl, inr, ⊎-elim}
-use native.Mathlib.Nat.{zero-add, add-zero, eq-or-lt-of-le, le-of-suc-le-suc}
+use native.Mathlib.Nat.{eq-or-lt-of-le, le-of-suc-le-suc}
 use native.Mathlib.Numerals.{add-one}
 use native.Mathlib.Omega.{arith}
 use lib.ListN.{length, getD, length-map, List·getD-map}
 use lib.Dec.{eqb}
 use borrow.Author.Tests.{eqb-true, eqb-false, eq-eqb, ne-eqb}
 use Rattle.rules.specs.Packed.{Named, named, packedWord, isPlace, bitmapBits, placesIn, placesOf, runAfter, packedBefore}
-use Rattle.laws.proofs.Packed.{Each, Ordered, Stands, each-map, each-append, each-at, ordered-append, ordered-at, stands-left, stands-right}
+use Rattle.laws.proofs.Packed.{Each, Ordered, Stands, each-map, each-append, ordered-append, stands-left, stands-right}
 use Rattle.laws.proofs.Packed.{BitAt, bit-next, bits-each, bits-ordered, bits-stand, runBefore, placesAt, before-none, before-more, run-next}
 use Rattle.demands.specs.Packed.{word, Names, by-place, by-bit}
 
@@ -22,7 +22,8 @@ Earlier x y = (x .word < y .word) ⊎ ((x .word ≡ y .word) × (x .place < y .p
 
 -- ---- the places of one word, each with the word's index
 
-each-named : (P : ℕ → Type 0) (Q : Named → Type 0) (k : ℕ) (ps : List ℕ) → ((p : ℕ) → P p → Q (named k p)) → Each P ps → Each Q (map (named k) ps)
+each-named : (P : ℕ → Type 0) (Q : Named → Type 0) (k : ℕ) (ps : List ℕ) → ((p : ℕ) → P p → Q (named k p)) → Each P ps
+    → Each Q (map (named k) ps)
 each-named P Q k [] h e = tt
 each-named P Q k (p ∷ ps) h e = (h p (e .0), each-named P Q k ps h (e .1))
 

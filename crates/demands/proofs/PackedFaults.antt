@@ -11,7 +11,7 @@ use native.Mathlib.Omega.{arith}
 use lib.ListN.{length}
 use lib.Dec.{eqb}
 use borrow.Author.Tests.{eqb-true, eqb-false, ltb-true, ltb-false, lt-ltb, le-ltb}
-use Rattle.rules.specs.Outcome.{good, bad, refusal}
+use Rattle.rules.specs.Outcome.{bad, refusal}
 use Rattle.rules.specs.Limits.{entryLimit}
 use Rattle.rules.specs.Bytes.{le}
 use Rattle.rules.specs.Tables.{tableBacking, backed, packedAddress, packedBytes}

@@ -193,7 +193,9 @@ module _ (f : List ℕ) (bias n p : ℕ) (m : Module) where
   tags choices c =
       let s = passes-stands f bias n p choices m c in
       record {
-        packed-sources = λ k e. packed-source f m bias k (e .after) ∙ ap (λ (x : ℕ). at (bias + x)) (sym (held-image f bias n p choices m s (placeAt f m k)));
+        packed-sources = λ k e.
+            packed-source f m bias k (e .after)
+            ∙ ap (λ (x : ℕ). at (bias + x)) (sym (held-image f bias n p choices m s (placeAt f m k)));
         against-plain = record { plain = bareMemory; takes = plain-takes choices c s; agrees = agrees choices s };
         matches = matching choices s;
         rechosen = rechoosing choices s c;

@@ -12,7 +12,7 @@ use lib.Seq.{drop-drop, drop-append-seam}
 use borrow.Author.Tests.{lt-ltb, le-ltb, le-leb, eq-eqb, ne-eqb}
 use Rattle.rules.specs.Outcome.{Outcome, good}
 use Rattle.rules.specs.Limits.{addressLimit, granule}
-use Rattle.rules.specs.Descriptors.{number, ulebAt, sizeLimit, shortSecond, shortFirst, shortAt}
+use Rattle.rules.specs.Descriptors.{ulebAt, sizeLimit, shortSecond, shortFirst, shortAt}
 use Rattle.rules.specs.Descriptors.{Read, global, globalAfter, second, descriptor, stepAt, tableStart}
 use Rattle.rules.specs.Checks.{runs}
 use Rattle.rules.specs.Writer.{uleb, descriptorOf, tableFrom, tableOf, listedChecks, listCheck}

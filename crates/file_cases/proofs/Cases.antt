@@ -23,7 +23,8 @@ pub file-cases-hold : FileCasesHold
 unfolding le first countBelow over put sizeCheck wrongByte identificationCheck goodHeader headerCheck headersOf
     headerAt powerBelow aligned goodLoad endBefore badLoad loadsCheck covers backs backsAt backer backingOf holds holdsAt inMemory
     isDynamicAt dynamicFrom isNullAt nullEntry goodSize dynamicAt dynamicOf isRow rowOf hasTagAt tagBefore badEntry hasTag partnerless
-    entriesCheck entryOf tableBacking relocationsOf descriptorsOf placesIn placesOf runAfter packedFrom isPlaceAt badWord packedOf ulebIn globalAfter second descriptor stepAt globalsFrom globalsOf moduleOf
+    entriesCheck entryOf tableBacking relocationsOf descriptorsOf placesIn placesOf runAfter packedFrom isPlaceAt
+    badWord packedOf ulebIn globalAfter second descriptor stepAt globalsFrom globalsOf moduleOf
     placeAt addendAt live positionAt targetAt symbolBacking symbolOf targetOf namedTarget target hasPlace taken placeFits goodPlace badRelocation firstBad
     relocationsCheck wordsOf factsOf examinedOf
 file-cases-hold = record {

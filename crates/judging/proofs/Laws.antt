@@ -1,15 +1,16 @@
 -- One item: what its tests come to.
 -- Assumes nothing.
-use Prim.Native.Nat.{ℕ, _%_, _+_, _≤_, _<_}
-use mathlib.Core.Path.{_≡_, refl, sym, ap, _∙_}
+use Prim.Native.Nat.{ℕ, _%_, _≤_, _<_}
+use mathlib.Core.Path.{_≡_, refl, sym, _∙_}
 use mathlib.Core.Bool.{Bool, true, false, cond}
 use mathlib.Core.List.{List}
 use native.Mathlib.Omega.{arith}
 use lib.IntN.{ℤ}
+use lib.Dec.{eqb}
 use borrow.Author.Tests.{eq-eqb, ne-eqb}
 use Rattle.rules.specs.Outcome.{good}
 use Rattle.rules.specs.Limits.{memoryLimit}
-use Rattle.rules.specs.Segments.{loadsCheck, inMemory}
+use Rattle.rules.specs.Segments.{loadsCheck}
 use Rattle.rules.specs.Addresses.{addressOf, outOfRange, natural, addressAt, badAddress}
 use Rattle.rules.specs.Answers.{inRange}
 use Rattle.rules.specs.Relocations.{placeAt, kindAt, symbolAt, live, target, targetAt, barred, placeFits}
@@ -19,13 +20,13 @@ use Rattle.rules.specs.declared.Headers.{Headers}
 use Rattle.rules.specs.declared.Module.{Module}
 use Rattle.rules.specs.declared.Target.{Target}
 use Rattle.rules.specs.declared.Target.the-variants.{Defined}
-use Rattle.rules.proofs.OutcomeLaws.{never}
+use Rattle.rules.proofs.OutcomeLaws.{never, and-right}
 use Rattle.laws.proofs.Loads.{end-limit, in-memory}
-use Rattle.laws.proofs.Items.{entry-live, entry-target, packed-live, packed-addend, packed-target}
-use Rattle.segments.specs.Spans.{Sound}
+use Rattle.laws.proofs.Items.{entry-live, entry-target, packed-addend, packed-target}
+use Rattle.segments.specs.Spans.{Sound, Held}
 use Rattle.segments.specs.declared.Span.{Span}
-use Rattle.judging.specs.declared.Judged.{Judged}
-use Rattle.judging.specs.Judges.{itemFault, skippedKey, keyAt, Judges}
+use Rattle.segments.proofs.SpanLaws.{sound-none}
+use Rattle.judging.specs.Judges.{itemFault, skippedKey, keyAt, Fitted, Judges}
 
 -- an address out of range, as the answer tells it
 pub outside-out : (z : ℤ) → inRange z ≡ Outside → outOfRange z ≡ true
@@ -43,21 +44,30 @@ at-in z a e = go (outOfRange z) e
     go false q = refl
 
 -- whether a place fits, by its two tests
-pub fits-odd : (f : List ℕ) (m : Module) (p : ℕ) → (p % 8 ≡ 0 → ⊥) → placeFits f (m .headers) p ≡ false
-unfolding placeFits
-fits-odd f m p h = rw (ne-eqb (p % 8) 0 h)
+module _ (f : List ℕ) (h : Headers) (p : ℕ) where
+  pub unfit-odd : (s : Span) → (p % 8 ≡ 0 → ⊥) → s .size ≡ 0 → Fitted f h p s
+  unfolding placeFits
+  unfit-odd s e z = record {
+    sound = sound-none f h true s z;
+    none = λ _. rw (ne-eqb (p % 8) 0 e);
+    some = λ l. absurd (omega arith);
+  }
 
-pub fits-held : (f : List ℕ) (m : Module) (p : ℕ) (b : Bool) → p % 8 ≡ 0 → inMemory f (m .headers) true p 8 ≡ b
-    → placeFits f (m .headers) p ≡ b
-unfolding placeFits
-fits-held f m p b h e = rw (eq-eqb (p % 8) 0 h) e
+  pub fitted-held : (s : Span) → p % 8 ≡ 0 → Held f h true p 8 s → Fitted f h p s
+  unfolding placeFits
+  fitted-held s e t = record {
+    sound = t .sound;
+    none = λ z. rw (eq-eqb (p % 8) 0 e) (t .none z);
+    some = λ l. rw (eq-eqb (p % 8) 0 e) (t .some l);
+  }
 
--- a place in memory is low
-pub place-low : (f : List ℕ) (h : Headers) (p : ℕ) → loadsCheck f h ≡ good tt → inMemory f h true p 8 ≡ true → p ≤ memoryLimit
-place-low f h p passed e =
-    let a = in-memory f h passed true p 8 e in
-    let b = end-limit f h passed (h .count) (omega arith) in
-    omega arith
+  -- a place that fits is low
+  pub place-low : loadsCheck f h ≡ good tt → placeFits f h p ≡ true → p ≤ memoryLimit
+  unfolding placeFits
+  place-low passed e =
+      let a = in-memory f h passed true p 8 (and-right (eqb (p % 8) 0) _ e) in
+      let b = end-limit f h passed (h .count) (omega arith) in
+      omega arith
 
 -- ---- what is found of an item
 

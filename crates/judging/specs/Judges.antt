@@ -1,13 +1,15 @@
 -- One item of what is relocated, by itself.
 -- Assumes nothing.
-use Prim.Native.Nat.{ℕ}
+use Prim.Native.Nat.{ℕ, _<_}
 use mathlib.Core.Path.{_≡_}
-use mathlib.Core.Bool.{true, cond}
+use mathlib.Core.Bool.{true, false, cond}
 use mathlib.Core.List.{List}
 use Rattle.rules.specs.Relocations.{placeAt, live, targetAt, barred, placeFits}
 use Rattle.rules.specs.Addresses.{badAddress}
+use Rattle.rules.specs.declared.Headers.{Headers}
 use Rattle.rules.specs.declared.Module.{Module}
 use Rattle.segments.specs.Spans.{Sound}
+use Rattle.segments.specs.declared.Span.{Span}
 use Rattle.judging.specs.declared.Judged.{Judged}
 
 -- its fault: 0 where it is skipped or nothing is wrong so far, else 10 or 11
@@ -21,6 +23,12 @@ skippedKey = 1
 
 unfoldable pub keyAt : List ℕ → Module → ℕ → ℕ
 keyAt f m i = cond (live f m i) (placeAt f m i) skippedKey
+
+-- the search for the PT_LOAD of a place: size 0 where the place does not fit
+pub record Fitted (f : List ℕ) (h : Headers) (place : ℕ) (s : Span) : Type 0 where
+  pub sound : Sound f h true s
+  pub none : s .size ≡ 0 → placeFits f h place ≡ false
+  pub some : 0 < s .size → placeFits f h place ≡ true
 
 -- what is found of it: its fault; where it has none its key, how many words it relocates, and whether its address is out of range;
 -- and the PT_LOAD found last

@@ -8,11 +8,13 @@ ghost use Rattle.rules.specs.Relocations.{placeAt};
 ghost use Rattle.rules.specs.Addresses.{addressOf, outOfRange};
 ghost use Rattle.segments.specs.Spans.{Sound};
 ghost use Rattle.places.specs.Ahead.{Here};
-ghost use Rattle.judging.specs.Judges.{skippedKey, Judges};
+ghost use Rattle.judging.specs.Judges.{skippedKey, Fitted, Judges};
 use places::Run;
 use rules::Address;
+use rules::Headers;
 use rules::Module;
 use rules::Target;
+use segments::NO_SPAN;
 use segments::Span;
 
 // Kept for a skipped item in the search for a repeated place: no place that fits.
@@ -56,6 +58,17 @@ fn faulty(number: u8, last: Span) -> Judged
     }
 }
 
+// The PT_LOAD that holds a place that fits; none where it does not.
+fn hold_place(f: &[u8], h: Headers, last: Span, place: u64) -> Span
+    requires { ⌜ Sound (now f) h true last ⌝ }
+    ensures { λ v. ⌜ Fitted (now (f .entry)) h place v ⌝ }
+{
+    if place % 8 != 0 {
+        return NO_SPAN;
+    }
+    segments::hold_writable(f, h, last, place, 8)
+}
+
 // An entry of the RELA table.
 fn judge_entry(f: &[u8], m: Module, bias: u64, last: Span, i: u32) -> Judged
     requires { ⌜ Sound (now f) (m .headers) true last × (i < m .relocations .entries) ⌝ }
@@ -80,10 +93,7 @@ fn judge_entry(f: &[u8], m: Module, bias: u64, last: Span, i: u32) -> Judged
         return faulty(10, last);
     }
     let place = items::place_at(f, r, i);
-    if place % 8 != 0 {
-        return faulty(11, last);
-    }
-    let span = segments::hold_writable(f, h, last, place, 8);
+    let span = hold_place(f, h, last, place);
     if span.size == 0 {
         return faulty(11, last);
     }
@@ -103,11 +113,8 @@ fn judge_packed(f: &[u8], m: Module, bias: u64, last: Span, place: u64) -> Judge
     requires { ⌜ Sound (now f) (m .headers) true last × (loadsCheck (now f) (m .headers) ≡ good tt) ⌝ }
     ensures { λ v. ⌜ ((i : ℕ) → m .relocations .entries ≤ i → placeAt (now (f .entry)) m i ≡ place → Judges (now (f .entry)) m bias i v) ⌝ }
 {
-    if place % 8 != 0 {
-        return faulty(11, last);
-    }
     let h = m.headers;
-    let span = segments::hold_writable(f, h, last, place, 8);
+    let span = hold_place(f, h, last, place);
     if span.size == 0 {
         return faulty(11, last);
     }

@@ -5,15 +5,14 @@ use mathlib.Core.Path.{_≡_, refl, sym, ap, _∙_}
 use mathlib.Core.Bool.{Bool, true, false, cond}
 use mathlib.Core.List.{List, [], _∷_, _++_, map}
 use mathlib.Core.Logic.{⊎-elim}
-use native.Mathlib.Nat.{zero-add, add-zero, suc-add, pow-succ', div-one, div-div-eq-div-mul, eq-or-lt-of-le, le-of-suc-le-suc}
+use native.Mathlib.Nat.{zero-add, add-zero, pow-succ', div-one, div-div-eq-div-mul, eq-or-lt-of-le, le-of-suc-le-suc}
 use native.Mathlib.Numerals.{add-one}
 use native.Mathlib.Omega.{arith}
 use lib.ListN.{length, getD, length-append, length-map, List·getD-append}
 use lib.Seq.{getD-append-add}
 use lib.Dec.{eqb}
-use borrow.Author.Tests.{eqb-true, eqb-false, eq-eqb, ne-eqb}
-use Rattle.rules.specs.Packed.{Named, named, packedWord, isPlace, placesIn, placesOf, runAfter, packedFrom, packedBefore}
-use Rattle.rules.proofs.OutcomeLaws.{never}
+use borrow.Author.Tests.{eqb-true, eq-eqb}
+use Rattle.rules.specs.Packed.{Named, named, packedWord, placesIn, placesOf, runAfter, packedFrom, packedBefore}
 
 -- ---- lists: what holds of each, in what order they are, and where one stands
 

@@ -9,14 +9,14 @@ use native.Mathlib.Nat.{eq-or-lt-of-le}
 use native.Mathlib.Numerals.{add-one}
 use native.Mathlib.Omega.{arith}
 use lib.ListN.{length}
-use lib.Dec.{ltb, leb, eqb}
-use borrow.Author.Tests.{eqb-true, eqb-false, eq-eqb, ne-eqb, ltb-true, ltb-false, lt-ltb, le-ltb, leb-true}
+use lib.Dec.{ltb, eqb}
+use borrow.Author.Tests.{eqb-true, eqb-false, eq-eqb, ne-eqb, ltb-true, ltb-false, leb-true}
 use Rattle.rules.specs.Outcome.{good, bad, refusal}
 use Rattle.rules.specs.Limits.{fileLimit, entryLimit}
 use Rattle.rules.specs.First.{first, someBelow}
 use Rattle.rules.specs.Segments.{headerAt, isLoad, covers, backs, backsAt, backer, backingIn, backingOf}
 use Rattle.rules.specs.Tables.{tableBacking, backed, packedAddress, packedBytes}
-use Rattle.rules.specs.Packed.{Named, packedWord, isPlace, packedFrom, packedBefore, isPlaceAt, badWord, wordsCheck, packedAt, packedOf}
+use Rattle.rules.specs.Packed.{Named, packedWord, packedBefore, isPlaceAt, badWord, wordsCheck, packedAt, packedOf}
 use Rattle.rules.specs.declared.Refusal.{Refusal}
 use Rattle.rules.specs.declared.Headers.{Headers}
 use Rattle.rules.specs.declared.Backing.{Backing}
@@ -26,7 +26,7 @@ use Rattle.rules.specs.declared.Relocations.{Relocations}
 use Rattle.rules.specs.declared.Packed.{Packed}
 use Rattle.rules.proofs.FirstLaws.{at-some, first-true}
 use Rattle.rules.proofs.OutcomeLaws.{never, true-false, and-left, and-right, andThen-good}
-use Rattle.laws.proofs.Checks.{or-right, le-or-lt, faultless-all, good-same}
+use Rattle.laws.proofs.Checks.{faultless-all, good-same}
 use Rattle.laws.proofs.Loads.{covers-within}
 use Rattle.laws.proofs.Packed.{before-none}
 

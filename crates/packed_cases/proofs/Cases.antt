@@ -31,7 +31,8 @@ pub packed-cases-hold : PackedCasesHold
 unfolding le first countBelow over put putWord sizeCheck wrongByte identificationCheck goodHeader headerCheck headersOf
     headerAt powerBelow aligned goodLoad endBefore alignBefore badLoad loadsCheck covers backs backsAt backer backingOf holds holdsAt inMemory
     isDynamicAt dynamicFrom isNullAt nullEntry goodSize dynamicAt dynamicOf isRow rowOf hasTagAt tagBefore badEntry hasTag partnerless
-    entriesCheck entryOf tableBacking relocationsOf descriptorsOf placesIn placesOf runAfter packedFrom isPlaceAt badWord packedOf ulebIn globalAfter second descriptor stepAt globalsFrom globalsOf
+    entriesCheck entryOf tableBacking relocationsOf descriptorsOf placesIn placesOf runAfter packedFrom isPlaceAt
+    badWord packedOf ulebIn globalAfter second descriptor stepAt globalsFrom globalsOf
     placeAt addendAt live positionAt targetAt symbolBacking symbolOf targetOf namedTarget target hasPlace taken placeFits goodPlace badRelocation firstBad
     relocationsCheck wordsOf moduleOf factsOf biasFits memoryFits planeFits lendingFits lendingCheck loadsOver loadedIn badAddress
     addressesCheck badChoice choicesFor tagged writes loadOf segmentsOf badBare bareWords plainOf

@@ -3,13 +3,12 @@
 use Prim.Native.Nat.{ℕ, _+_, _-_, _≤_, _<_}
 use mathlib.Core.Path.{_≡_, sym, ap, _∙_}
 use mathlib.Core.List.{List}
-use native.Mathlib.Nat.{add-zero}
 use native.Mathlib.Omega.{arith}
 use lib.ListN.{length, getD, drop, length-drop}
 use lib.Seq.{getD-drop, drop-drop}
 use borrow.Author.Tests.{le-leb}
 use Rattle.rules.specs.Packed.{Named, named, packedBefore}
-use Rattle.rules.specs.Relocations.{packedItem, placeAt, items, positionAt}
+use Rattle.rules.specs.Relocations.{packedItem, placeAt, positionAt}
 use Rattle.rules.specs.declared.Module.{Module}
 use Rattle.places.specs.Ahead.{ahead, placeLimit, Next, Reached, Here, Comes}
 use Rattle.places.specs.declared.Run.{Run}

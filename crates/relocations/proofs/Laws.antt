@@ -22,13 +22,13 @@ use Rattle.rules.specs.declared.Module.{Module}
 use Rattle.rules.specs.declared.Walked.{Walked}
 use Rattle.rules.specs.declared.Refusal.{Refusal}
 use Rattle.rules.proofs.FirstLaws.{first-step, first-hit, first-none, first-le, first-same, first-next, count-le}
-use Rattle.rules.proofs.OutcomeLaws.{false-true, never, and-left, and-right, andThen-good}
+use Rattle.rules.proofs.OutcomeLaws.{false-true, never, and-left, andThen-good}
 use Rattle.laws.proofs.Checks.{andThen-bad}
 use Rattle.segments.specs.Spans.{Sound}
 use Rattle.segments.specs.declared.Span.{Span}
 use Rattle.segments.proofs.SpanLaws.{sound-none}
 use Rattle.laws.proofs.Items.{packed-live}
-use Rattle.places.specs.Ahead.{placeLimit, Reached, Here, Comes}
+use Rattle.places.specs.Ahead.{placeLimit, Reached, Comes}
 use Rattle.places.specs.declared.Run.{Run}
 use Rattle.places.proofs.Laws.{standingAt}
 use Rattle.places.proofs.ItemLaws.{reached-start}
@@ -227,11 +227,9 @@ module _ (f : List ℕ) (m : Module) (ready : Ready f m) (bias : ℕ) (keys : Li
 
     -- a packed place that fits is low
     low-place : (next : Run) → Comes f m i next → m .relocations .entries ≤ i → next .place ≤ placeLimit
-    unfolding placeFits
     low-place next come l =
         let c = clear-bad f m i (j .number) (judged .fault) none in
-        let fits = c .2 (packed-live f m i l) in
-        let low = place-low f (m .headers) (placeAt f m i) (ready .loads) (and-right (eqb (placeAt f m i % 8) 0) _ fits) in
+        let low = place-low f (m .headers) (placeAt f m i) (ready .loads) (c .2 (packed-live f m i l)) in
         let q = come .here .place l in
         omega arith
 

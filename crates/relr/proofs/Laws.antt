@@ -1,24 +1,23 @@
 -- Laws of packed words: how many places they name, and which is the first bad one.
 -- Assumes nothing.
 use Prim.Native.Nat.{ℕ, zero, suc, _+_, _*_, _/_, _%_, _-_, _^_, _≤_, _<_}
-use mathlib.Core.Path.{_≡_, refl, sym, _∙_}
+use mathlib.Core.Path.{_≡_, refl, sym, ap, _∙_}
 use mathlib.Core.Bool.{Bool, true, false, cond}
 use mathlib.Core.List.{List, [], _∷_, _++_}
 use native.Mathlib.Nat.{pow-suc, sub-zero}
-use native.Mathlib.Numerals.{add-one}
 use native.Mathlib.Omega.{arith}
-use lib.ListN.{length, length-append, length-map}
-use lib.Dec.{ltb, eqb}
+use lib.ListN.{length}
+use lib.Dec.{eqb}
 use lib.Count.{ones, ones-step, ones-le}
-use borrow.Author.Tests.{lt-ltb, le-ltb, eq-eqb, ne-eqb, eqb-true, eqb-false}
+use borrow.Author.Tests.{lt-ltb, le-ltb, eqb-true, eqb-false}
 use Rattle.rules.specs.Outcome.{good, bad, refuse, andThen}
 use Rattle.rules.specs.Checks.{Check}
 use Rattle.rules.specs.Limits.{entryLimit}
 use Rattle.rules.specs.First.{first}
-use Rattle.rules.specs.Packed.{isPlace, placesIn, placesOf, runAfter, packedWord, packedFrom, packedBefore}
-use Rattle.rules.specs.Packed.{isPlaceAt, badWord, wordsCheck, packedAt}
-use Rattle.rules.proofs.BoolLaws.{and-false}
-use Rattle.rules.proofs.FirstLaws.{first-step, first-hit, first-none, at-some, faultless-hit, faultless-none}
+use Rattle.rules.specs.Packed.{isPlace, placesIn, placesOf, packedWord, packedFrom, packedBefore, badWord, wordsCheck, packedAt}
+use Rattle.rules.proofs.FirstLaws.{first-step, first-hit, first-none, faultless-hit, faultless-none}
+use Rattle.laws.proofs.Packed.{runBefore, before-length}
+use Rattle.laws.proofs.PackedTable.{bad-many, bad-bitmap}
 use Rattle.relr.specs.Count.{countOf, countIn}
 
 -- ---- a word: as many places as bits are set, wherever the run stands
@@ -56,29 +55,10 @@ ones-odd w e h = let s = ones-step w in (omega arith, ones-le 64 w h)
 
 -- ---- a table: one word more
 
-from-first : (f : List ℕ) (at run k n : ℕ) → length (packedFrom f at run k (suc n))
-    ≡ length (placesOf run (packedWord f at k)) + length (packedFrom f at (runAfter run (packedWord f at k)) (k + 1) n)
-unfolding packedFrom
-from-first f at run k n = rw (length-append, length-map)
-
-from-more : (f : List ℕ) (at run k n : ℕ) → packedWord f at (k + n) < 2 ^ 64
-    → length (packedFrom f at run k (suc n)) ≡ length (packedFrom f at run k n) + countOf (packedWord f at (k + n))
-unfolding packedFrom
-from-more f at run k zero h =
-    let e : k + 0 ≡ k = omega arith in
-    let w = packedWord f at k in
-    rw (length-append, length-map, e, word-places run w (rw e at h)) (omega arith)
-from-more f at run k (suc n) h =
-    let e : k + suc n ≡ k + 1 + n = omega arith in
-    let w = packedWord f at k in
-    let all = from-first f at run k (suc n) in
-    let below = from-first f at run k n in
-    let m = from-more f at (runAfter run w) (k + 1) n (rw e at h) in
-    all ∙ rw (e, below, m) (omega arith)
-
 pub packed-more : (f : List ℕ) (at k : ℕ) → packedWord f at k < 2 ^ 64
     → length (packedBefore f at (k + 1)) ≡ length (packedBefore f at k) + countOf (packedWord f at k)
-packed-more f at k h = let e : 0 + k ≡ k = omega arith in rw add-one (rw e at (from-more f at 0 0 k (rw e h)))
+packed-more f at k h =
+    before-length f at k ∙ ap (λ (x : ℕ). length (packedBefore f at k) + x) (word-places (runBefore f at k) (packedWord f at k) h)
 
 -- ---- the first bad word
 
@@ -89,23 +69,15 @@ no-words f at entries = refl
 -- a bitmap first is bad
 pub odd-first : (f : List ℕ) (at words entries w : ℕ) → 0 < words → w ≡ packedWord f at 0 → (w % 2 ≡ 0 → ⊥)
     → countIn f at words entries ≡ refuse 15 0
-unfolding badWord isPlaceAt
 odd-first f at words entries w l e o =
     let t = badWord f at entries in
-    let b : t 0 ≡ true = rw (← e, ne-eqb (w % 2) 0 o, le-ltb (first (isPlaceAt f at) 0 0) 0 (omega arith)) in
+    let b = bad-bitmap f at entries (rw (← e) o) in
     let hit : first t 0 words ≡ 0 = rw sub-zero at (first-hit t 0 words l b) in
     rw (faultless-hit 15 t words 0 hit l)
 
--- behind a place a word is bad by what it adds alone
-bad-over : (f : List ℕ) (at entries k : ℕ) → isPlaceAt f at 0 ≡ true
-    → badWord f at entries k ≡ ltb entryLimit (entries + length (packedBefore f at (k + 1)))
-unfolding badWord
-bad-over f at entries zero e = rw e
-bad-over f at entries (suc k) e = rw (at-some (isPlaceAt f at) (suc k) 0 (omega arith) e, and-false)
-
 -- the first word is a place; the words below k are good, and name so many places that they and the entries are the total
 pub record Counting (f : List ℕ) (at words entries k total : ℕ) : Type 0 where
-  pub even : isPlaceAt f at 0 ≡ true
+  pub even : packedWord f at 0 % 2 ≡ 0
   pub seen : k ≤ words
   pub sum : total ≡ entries + length (packedBefore f at k)
   pub small : total < 2 ^ 32
@@ -113,9 +85,9 @@ pub record Counting (f : List ℕ) (at words entries k total : ℕ) : Type 0 whe
 
 pub counting-none : (f : List ℕ) (at words entries w : ℕ) → entries < 2 ^ 32 → w ≡ packedWord f at 0 → w % 2 ≡ 0
     → Counting f at words entries 0 entries
-unfolding packedFrom isPlaceAt
+unfolding packedFrom
 counting-none f at words entries w l e o =
-    record { even = rw (← e) (eq-eqb (w % 2) 0 o); seen = omega arith; sum = omega arith; small = l; onward = rw sub-zero }
+    record { even = rw (← e) o; seen = omega arith; sum = omega arith; small = l; onward = rw sub-zero }
 
 module _ (f : List ℕ) (at words entries k total : ℕ) (c : Counting f at words entries k total) where
   -- the next word, and how many places it names
@@ -129,7 +101,7 @@ module _ (f : List ℕ) (at words entries k total : ℕ) (c : Counting f at word
     pub counting-next : total + n ≤ entryLimit → Counting f at words entries (k + 1) (total + n)
     counting-next h =
         let t = badWord f at entries in
-        let fine : t k ≡ false = bad-over f at entries k (c .even) ∙ rw (← sum-next) (le-ltb entryLimit (total + n) h) in
+        let fine : t k ≡ false = bad-many f at entries k (c .even) ∙ rw (← sum-next) (le-ltb entryLimit (total + n) h) in
         record {
           even = c .even;
           seen = omega arith;
@@ -141,7 +113,7 @@ module _ (f : List ℕ) (at words entries k total : ℕ) (c : Counting f at word
     pub counting-over : entryLimit < total + n → countIn f at words entries ≡ refuse 15 k
     counting-over h =
         let t = badWord f at entries in
-        let over : t k ≡ true = bad-over f at entries k (c .even) ∙ rw (← sum-next) (lt-ltb entryLimit (total + n) h) in
+        let over : t k ≡ true = bad-many f at entries k (c .even) ∙ rw (← sum-next) (lt-ltb entryLimit (total + n) h) in
         rw (faultless-hit 15 t words k (c .onward ∙ first-hit t k words l over) l)
 
   pub counting-all : words ≤ k → countIn f at words entries ≡ good (total - entries)

@@ -5,7 +5,7 @@ use mathlib.Core.Path.{_≡_, sym, _∙_}
 use mathlib.Core.Bool.{true, false}
 use native.Mathlib.Omega.{arith}
 use Rattle.rules.specs.Relocations.{targetAt, barred}
-use Rattle.judging.proofs.Laws.{judged-skipped, judged-barred, judged-misfit, judged-good, fits-odd, fits-held}
+use Rattle.judging.proofs.Laws.{judged-skipped, judged-barred, judged-misfit, judged-good}
 use Rattle.judging.proofs.Laws.{entry-skipped, entry-kept, target-read}
 use Rattle.laws.proofs.Items.{entry-place, entry-addend}
 use borrow.Author.Needs.{needs}
@@ -35,9 +35,18 @@ returns-2 c =
     rw (c .faulty .ensures)
     (judged-barred (a .f .now) (a .m) (a .bias) (a .i) (a .last) (S .pre .0) kept b)
 
+hold-place-requires : tie.Need-hold-place-requires
+hold-place-requires c κs =
+    let L = c .before in
+    let B = L .before in
+    let Y = B .before .before in
+    let K = Y .before .before .before in
+    K .before .before .before .pre .0
+
 returns-3 : tie.Need-returns-3
 returns-3 c =
-    let P = c .before .before in
+    let O = c .before .before .before in
+    let P = O .before in
     let L = P .before in
     let B = L .before in
     let F = B .before in
@@ -49,45 +58,17 @@ returns-3 c =
     let kept = entry-kept (a .f .now) (a .m) (a .i) (S .pre .1) (λ z. E .if1 .left (K .kind-at .ensures ∙ z)) in
     let t = target-read (a .f .now) (a .m) (a .i) (S .pre .1) _ _ _ (K .kind-at .ensures) (Y .symbol-at .ensures) (F .find-target .ensures) in
     let b : barred (targetAt (a .f .now) (a .m) (a .i)) ≡ false = rw (← t, ← B .is-barred .ensures) (L .if2 .left) in
+    let out = O .hold-place .ensures .none (c .before .if3 .taken) in
     rw (c .faulty2 .ensures)
     (judged-misfit (a .f .now) (a .m) (a .bias) (a .i) (a .last) (S .pre .0) kept b
-    (rw (entry-place (a .f .now) (a .m) (a .i) (S .pre .1), ← P .place-at .ensures) (fits-odd (a .f .now) (a .m) (P .place-at .result) (c .before .if3 .taken))))
-
-hold-writable-requires : tie.Need-hold-writable-requires
-hold-writable-requires c κs =
-    let B = c .before .before .before in
-    let K = B .before .before .before .before .before in
-    let S = K .before .before .before in
-    (omega arith, S .pre .0)
+    (rw (entry-place (a .f .now) (a .m) (a .i) (S .pre .1), ← P .place-at .ensures) out))
 
 returns-4 : tie.Need-returns-4
 returns-4 c =
-    let O = c .before .before .before in
-    let G = O .before in
-    let P = G .before in
-    let L = P .before in
-    let B = L .before in
-    let F = B .before in
-    let Y = F .before in
-    let E = Y .before .before in
-    let K = E .before in
-    let S = K .before .before .before in
-    let a = S .args in
-    let kept = entry-kept (a .f .now) (a .m) (a .i) (S .pre .1) (λ z. E .if1 .left (K .kind-at .ensures ∙ z)) in
-    let t = target-read (a .f .now) (a .m) (a .i) (S .pre .1) _ _ _ (K .kind-at .ensures) (Y .symbol-at .ensures) (F .find-target .ensures) in
-    let b : barred (targetAt (a .f .now) (a .m) (a .i)) ≡ false = rw (← t, ← B .is-barred .ensures) (L .if2 .left) in
-    let out = O .hold-writable .ensures .none (c .before .if4 .taken) in
-    rw (c .faulty3 .ensures)
-    (judged-misfit (a .f .now) (a .m) (a .bias) (a .i) (a .last) (S .pre .0) kept b
-    (rw (entry-place (a .f .now) (a .m) (a .i) (S .pre .1), ← P .place-at .ensures) (fits-held (a .f .now) (a .m) (P .place-at .result) false (G .if3 .left) out)))
-
-returns-5 : tie.Need-returns-5
-returns-5 c =
     let A = c .before in
     let Z = A .before in
     let O = Z .before .before in
-    let G = O .before in
-    let P = G .before in
+    let P = O .before in
     let L = P .before in
     let B = L .before in
     let F = B .before in
@@ -99,16 +80,14 @@ returns-5 c =
     let kept = entry-kept (a .f .now) (a .m) (a .i) (S .pre .1) (λ z. E .if1 .left (K .kind-at .ensures ∙ z)) in
     let t = target-read (a .f .now) (a .m) (a .i) (S .pre .1) _ _ _ (K .kind-at .ensures) (Y .symbol-at .ensures) (F .find-target .ensures) in
     let b : barred (targetAt (a .f .now) (a .m) (a .i)) ≡ false = rw (← t, ← B .is-barred .ensures) (L .if2 .left) in
-    let full : 0 < O .hold-writable .result .size = omega arith in
-    let held = O .hold-writable .ensures .some full in
-    judged-good (a .f .now) (a .m) (a .bias) (a .i) (O .hold-writable .result) (O .hold-writable .ensures .sound) kept
+    let full : 0 < O .hold-place .result .size = omega arith in
+    judged-good (a .f .now) (a .m) (a .bias) (a .i) (O .hold-place .result) (O .hold-place .ensures .sound) kept
     (P .place-at .result) (c .is-outside .result) b
-    (entry-place (a .f .now) (a .m) (a .i) (S .pre .1) ∙ sym (P .place-at .ensures))
-    (fits-held (a .f .now) (a .m) (P .place-at .result) true (G .if3 .left) held)
+    (entry-place (a .f .now) (a .m) (a .i) (S .pre .1) ∙ sym (P .place-at .ensures)) (O .hold-place .ensures .some full)
     (c .is-outside .ensures ∙ rw (t, A .addend-at .ensures, ← entry-addend (a .f .now) (a .m) (a .i) (S .pre .1)))
 
 pub judge-entry-spec : {M : Type 1} → statement M
 judge-entry-spec =
     tie.close
-    (tie.spec (search needs) returns (search needs) (search needs) (search needs) (search needs) returns-2 (search needs) (search needs) returns-3
-    hold-writable-requires (search needs) returns-4 (search needs) (search needs) returns-5)
+    (tie.spec (search needs) returns (search needs) (search needs) (search needs) (search needs) returns-2 (search needs)
+    hold-place-requires (search needs) returns-3 (search needs) (search needs) returns-4)

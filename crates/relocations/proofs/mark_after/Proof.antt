@@ -1,6 +1,5 @@
 -- By whether one was marked before, and whether this is one.
 -- Assumes nothing.
-use native.Mathlib.Omega.{arith}
 use borrow.Author.Needs.{needs}
 use borrow.Author.Tests.{eq-eqb, ne-eqb}
 use Rattle.relocations.specs.Walk.{markAfter}

@@ -1,6 +1,5 @@
 -- An entry's index; behind the entries, the index of the word that was read last.
 -- Assumes nothing.
-use Prim.Native.Nat.{_≤_}
 use mathlib.Core.Path.{sym}
 use native.Mathlib.Omega.{arith}
 use borrow.Author.Needs.{needs}
