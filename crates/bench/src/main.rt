@@ -1,4 +1,5 @@
 // Runs the unmarked cases of the bench sheet, and the words and tables of the marked ones, and writes a line for each.
+use bench_images::SHEET_PLACE;
 use bench_runs::BIAS;
 
 // -1, -128 and -4,096 as eight bytes hold them.
@@ -12,6 +13,11 @@ const MINUS_4096: u64 = 0xfffffffffffff000;
 const LIMIT_LESS_BIAS: u64 = 0xffffc0000000;
 
 const LAST_LESS_BIAS: u64 = 0xffffbfffffff;
+
+// Bitmaps of 15 and of 16 places.
+const FIFTEEN_BITS: u64 = 0xffff;
+
+const SIXTEEN_BITS: u64 = 0x1ffff;
 
 fn run_words() {
     bench_runs::run_sheet(b"A = 0x10C0, *P = -128: ", BIAS, 0x10c0, MINUS_128);
@@ -32,6 +38,18 @@ fn run_choices() {
     bench_runs::run_choices(b"tags 3, 3, 5: ", BIAS, 0x10c0, MINUS_128, b"\x03\x03\x05");
 }
 
+fn run_packed() {
+    bench_runs::run_packed(b"packed place, loaded 0x10C0: ", SHEET_PLACE as u64, 0x10c0);
+    bench_runs::run_packed(
+        b"packed place, loaded 2^48 - bias: ",
+        SHEET_PLACE as u64,
+        LIMIT_LESS_BIAS,
+    );
+    bench_runs::run_packed(b"packed bitmap first: ", 3, 0x10c0);
+    bench_runs::run_packed_long(b"1024 packed places: ", FIFTEEN_BITS);
+    bench_runs::run_packed_long(b"1025 packed places: ", SIXTEEN_BITS);
+}
+
 fn main() {
     bench_report::run_numbers();
     run_words();
@@ -42,5 +60,6 @@ fn main() {
     bench_runs::run_aligned(b"align 16384, bias 16384: ", 16384, 16384);
     bench_runs::run_long(b"1024 relocations: ", 1024);
     bench_runs::run_long(b"1025 relocations: ", 1025);
+    run_packed();
     bench_report::run_tables();
 }

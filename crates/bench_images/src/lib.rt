@@ -1,4 +1,4 @@
-// Images for the bench sheet: one writable PT_LOAD from address 0 on, the sheet's three globals, RELATIVE relocations.
+// Images for the bench sheet: one writable PT_LOAD from address 0 on, the sheet's three globals, RELATIVE or packed relocations.
 ghost use mathlib.Core.Path.{_≡_};
 ghost use Prim.Native.Nat.{_+_, _*_};
 ghost use Rattle.rules.specs.Memory.{putWord};
@@ -7,6 +7,9 @@ use rules::DT_MEMTAG_GLOBALSSZ;
 use rules::DT_RELA;
 use rules::DT_RELAENT;
 use rules::DT_RELASZ;
+use rules::DT_RELR;
+use rules::DT_RELRENT;
+use rules::DT_RELRSZ;
 
 // Where the parts of an image stand, in the file and in memory.
 const HEADERS: usize = 64;
@@ -29,6 +32,9 @@ pub const LONG_FILE: u32 = 25600;
 const WRITABLE_LOAD: u64 = 0x600000001;
 
 const PT_DYNAMIC: u64 = 2;
+
+// A bitmap of 63 places.
+const ALL_BITS: u64 = 0xffffffffffffffff;
 
 // R_AARCH64_RELATIVE.
 const RELATIVE: u64 = 1027;
@@ -78,22 +84,28 @@ fn rela_bytes(entries: u32) -> u64
     24 * (entries as u64)
 }
 
-// The dynamic table of an image with so many relocations.
+// An image of the sheet's three globals, all but the relocations and their entries in the dynamic table.
+fn put_image(f: &mut [u8], filesz: u64, memsz: u64) {
+    put_file_header(f);
+    put_header(f, 0, WRITABLE_LOAD, 0, filesz, memsz);
+    put_header(f, 1, PT_DYNAMIC, ENTRIES as u64, 96, 96);
+    put_dynamic(f, 3, DT_MEMTAG_GLOBALS, DESCRIPTORS as u64);
+    put_dynamic(f, 4, DT_MEMTAG_GLOBALSSZ, 5);
+    memory::put_bytes(f, DESCRIPTORS, b"\x82\x10\x10\x07\x01");
+}
+
+// The entries of so many relocations.
 fn put_table(f: &mut [u8], entries: u32) {
     put_dynamic(f, 0, DT_RELA, RELA as u64);
     put_dynamic(f, 1, DT_RELASZ, rela_bytes(entries));
     put_dynamic(f, 2, DT_RELAENT, 24);
-    put_dynamic(f, 3, DT_MEMTAG_GLOBALS, DESCRIPTORS as u64);
-    put_dynamic(f, 4, DT_MEMTAG_GLOBALSSZ, 5);
 }
 
-// An image of the sheet's three globals, all but the relocations themselves.
-fn put_image(f: &mut [u8], filesz: u64, memsz: u64, entries: u32) {
-    put_file_header(f);
-    put_header(f, 0, WRITABLE_LOAD, 0, filesz, memsz);
-    put_header(f, 1, PT_DYNAMIC, ENTRIES as u64, 96, 96);
-    put_table(f, entries);
-    memory::put_bytes(f, DESCRIPTORS, b"\x82\x10\x10\x07\x01");
+// The entries of a packed table of so many bytes.
+fn put_packed_table(f: &mut [u8], bytes: u64) {
+    put_dynamic(f, 0, DT_RELR, RELA as u64);
+    put_dynamic(f, 1, DT_RELRSZ, bytes);
+    put_dynamic(f, 2, DT_RELRENT, 8);
 }
 
 // The align of the image's PT_LOAD.
@@ -112,13 +124,39 @@ fn put_relocations(f: &mut [u8], entries: u32, place: u32, addend: u64) {
 
 // The sheet's image with one relocation, of an addend and the place's bytes, over zeros.
 pub fn put_sheet(f: &mut [u8], memsz: u64, addend: u64, loaded: u64) {
-    put_image(f, SHEET_FILE, memsz, 1);
+    put_image(f, SHEET_FILE, memsz);
+    put_table(f, 1);
     put_relative(f, 0, SHEET_PLACE as u64, addend);
     memory::put64(f, SHEET_PLACE, loaded);
 }
 
 // An image with so many relocations, over zeros; their places come after the file part.
 pub fn put_long(f: &mut [u8], memsz: u64, entries: u32, addend: u64) {
-    put_image(f, LONG_FILE as u64, memsz, entries);
+    put_image(f, LONG_FILE as u64, memsz);
+    put_table(f, entries);
     put_relocations(f, entries, LONG_FILE, addend);
+}
+
+// The sheet's image with a packed table of one word, and the bytes of the sheet's place.
+pub fn put_packed(f: &mut [u8], memsz: u64, word: u64, loaded: u64) {
+    put_image(f, SHEET_FILE, memsz);
+    put_packed_table(f, 8);
+    memory::put64(f, RELA, word);
+    memory::put64(f, SHEET_PLACE, loaded);
+}
+
+// So many packed words, each a bitmap of 63 places.
+fn put_bitmaps(f: &mut [u8], words: u32) {
+    for i in 0..words {
+        memory::put64(f, RELA + 8 * (i as usize), ALL_BITS);
+    }
+}
+
+// An image with packed places after the file part: one by a word, 1,008 by 16 bitmaps, and those of a last bitmap.
+pub fn put_packed_long(f: &mut [u8], memsz: u64, last: u64) {
+    put_image(f, LONG_FILE as u64, memsz);
+    put_packed_table(f, 144);
+    put_bitmaps(f, 17);
+    memory::put64(f, RELA, LONG_FILE as u64);
+    memory::put64(f, RELA + 136, last);
 }

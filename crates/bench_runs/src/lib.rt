@@ -70,19 +70,31 @@ pub fn run_aligned(name: &[u8], align: u64, bias: u64) {
     run_image(&f, name, bias, b"\x03\x09\x05");
 }
 
-// An image with so many relocations; the word is that of the entry of index 1,023.
-pub fn run_long(name: &[u8], entries: u32) {
+// With a packed table of one word.
+pub fn run_packed(name: &[u8], word: u64, loaded: u64) {
     let mut f = [0u8; FILE];
+    bench_images::put_packed(&mut f, SHEET_MEMORY as u64, word, loaded);
+    run_image(&f, name, BIAS, b"\x03\x09\x05");
+}
+
+// Loads an image with room for 1,025 places after its file part; the word is that of the place of index 1,023.
+fn run_places(f: &[u8], name: &[u8]) {
     let mut memory = [0u8; LONG_MEMORY];
     let mut plane = [0u8; LONG_PLANE];
-    bench_images::put_long(&mut f, LONG_MEMORY as u64, entries, 0x10c0);
     io::write_all(STDOUT_FILENO, name);
-    run_load(
-        &f,
-        BIAS,
-        &mut memory,
-        &mut plane,
-        b"\x03\x09\x05",
-        LONG_LAST,
-    );
+    run_load(f, BIAS, &mut memory, &mut plane, b"\x03\x09\x05", LONG_LAST);
+}
+
+// An image with packed places: 1,009 and those of a last bitmap.
+pub fn run_packed_long(name: &[u8], last: u64) {
+    let mut f = [0u8; FILE];
+    bench_images::put_packed_long(&mut f, LONG_MEMORY as u64, last);
+    run_places(&f, name);
+}
+
+// An image with so many relocations.
+pub fn run_long(name: &[u8], entries: u32) {
+    let mut f = [0u8; FILE];
+    bench_images::put_long(&mut f, LONG_MEMORY as u64, entries, 0x10c0);
+    run_places(&f, name);
 }
