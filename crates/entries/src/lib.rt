@@ -201,6 +201,9 @@ fn is_partnerless(f: &[u8], d: Dynamic, r: usize) -> bool
     let k = row_at(r);
     let tag = k.tag;
     let group = k.group;
+    if tag == group {
+        return false;
+    }
     let partner = has_tag(f, d, group);
     if has_tag(f, d, tag) {
         return !partner;

@@ -61,7 +61,14 @@ fn write_packed(plane: &[u8], bias: u64, place: usize, mem: &mut [u8])
     ensures { λ _. ⌜ now (mem .exit) ≡ putWord (now (mem .entry)) place (targetWord (now (plane .entry)) bias (now (mem .entry)) (Defined (le 8 (now (mem .entry)) place)) 0 place) ⌝ }
 {
     let loaded = reads::read64(mem, place);
-    write_word(plane, bias, Target::Defined(loaded), 0, place, mem);
+    let t = Target::Defined(loaded);
+    let tag = words::source_tag(plane, bias, mem.len() as u64, t, 0, loaded);
+    let bare = words::bare_word(bias, t, 0);
+    memory::put64(
+        mem,
+        place,
+        std::num::wrapping_add_u64(bare, TAG_UNIT * (tag as u64)),
+    );
 }
 
 // The words of the packed places, after those of the entries.

@@ -1,14 +1,19 @@
--- The place is read, and the word is that of what it holds.
+-- The place is read, and then the low 64 bits of the word of what it holds are put there.
 -- Assumes nothing.
 use borrow.Author.Needs.{needs}
+use Rattle.relocating.proofs.WriteLaws.{put-mod}
 use Rattle.relocating.proofs.write_packed.Statement.{statement}
 use Rattle.relocating.proofs.write_packed.Tie as tie
 
 returns : tie.Need-returns
 returns c =
-    let W = c .before .before in
-    let R = W .before .before in
-    rw (← R .read64 .ensures) (W .write-word .ensures)
+    let P = c .before .before in
+    let W = P .before in
+    let B = W .before .before in
+    let S = B .before in
+    rw (← S .before .read64 .ensures, P .put64 .ensures, W .wrapping-add-u64 .ensures, put-mod, B .bare-word .ensures, S .source-tag .ensures)
 
 pub write-packed-spec : {M : Type 1} → statement M
-write-packed-spec = tie.close (tie.spec (search needs) (search needs) (search needs) returns)
+write-packed-spec =
+    tie.close
+    (tie.spec (search needs) (search needs) (search needs) (search needs) (search needs) (search needs) (search needs) (search needs) returns)
