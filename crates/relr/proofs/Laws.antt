@@ -53,6 +53,11 @@ word-places run w h = go (isPlace w) refl
 pub ones-odd : (w : ℕ) → (w % 2 ≡ 0 → ⊥) → w < 2 ^ 64 → (1 ≤ ones w) × (ones w ≤ 64)
 ones-odd w e h = let s = ones-step w in (omega arith, ones-le 64 w h)
 
+-- a bitmap of no place
+pub empty-bitmap : countOf 1 ≡ 0
+unfolding countOf
+empty-bitmap = let s = ones-step 1 in let z = ones-zero (1 / 2) (omega arith) in omega arith
+
 -- ---- a table: one word more
 
 pub packed-more : (f : List ℕ) (at k : ℕ) → packedWord f at k < 2 ^ 64

@@ -23,12 +23,15 @@ pub enum CountAnswer {
     Refused(Refusal),
 }
 
-// How many places a word names: an even one itself, an odd one a place for each bit but the lowest.
+// How many places a word names: an even one itself, an odd one a place for each bit but the lowest. A bitmap of none needs no count.
 fn count_of(w: u64) -> u32
     ensures { λ v. ⌜ v ≡ countOf w ⌝ }
 {
     if w % 2 == 0 {
         return 1;
+    }
+    if w == 1 {
+        return 0;
     }
     u64::count_ones(w) - 1
 }

@@ -1,9 +1,10 @@
--- By the word's lowest bit.
+-- By the word's lowest bit, and whether it is the only one.
 -- Assumes nothing.
+use mathlib.Core.Path.{sym}
 use native.Mathlib.Omega.{arith}
 use borrow.Author.Tests.{eq-eqb, ne-eqb}
 use Rattle.relr.specs.Count.{countOf}
-use Rattle.relr.proofs.Laws.{ones-odd}
+use Rattle.relr.proofs.Laws.{ones-odd, empty-bitmap}
 use Rattle.relr.proofs.count_of.Statement.{statement}
 use Rattle.relr.proofs.count_of.Tie as tie
 
@@ -11,12 +12,15 @@ returns : tie.Need-returns
 unfolding countOf
 returns c = rw (eq-eqb _ 0 (c .if1 .taken))
 
-sub-result : tie.Need-sub-result
-sub-result c = omega (arith, ones-odd (c .before .args .w) (c .if1 .left) (omega arith))
-
 returns-2 : tie.Need-returns-2
+returns-2 c = rw (c .if2 .taken) (sym empty-bitmap)
+
+sub-result : tie.Need-sub-result
+sub-result c = omega (arith, ones-odd (c .before .before .args .w) (c .before .if1 .left) (omega arith))
+
+returns-3 : tie.Need-returns-3
 unfolding countOf
-returns-2 c = rw (ne-eqb _ 0 (c .if1 .left))
+returns-3 c = rw (ne-eqb _ 0 (c .before .if1 .left))
 
 pub count-of-spec : {M : Type 1} → statement M
-count-of-spec = tie.close (tie.spec returns sub-result returns-2)
+count-of-spec = tie.close (tie.spec returns returns-2 sub-result returns-3)
