@@ -3,7 +3,7 @@ ghost use mathlib.Core.Path.{_≡_};
 ghost use mathlib.Core.Bool.{false, true, cond};
 ghost use Prim.Native.Nat.{_+_, _<_};
 ghost use lib.Dec.{leb};
-ghost use Rattle.rules.specs.Segments.{headerAt, isLoad, loadsEnd, backs, backsAt, backingIn, backingOf, holdsAt};
+ghost use Rattle.rules.specs.Segments.{headerAt, isLoad, loadsEnd, backsAt, backingIn, backingOf, holdsAt};
 ghost use Rattle.segments.specs.Spans.{Sound, Held};
 use rules::Backing;
 use rules::FILE_LIMIT;
@@ -64,14 +64,6 @@ pub fn loads_end_within(f: &[u8], h: Headers, n: u64) -> bool
     fits
 }
 
-// Where bytes of a segment that backs them stand in the file.
-fn backing_in(a: u64, n: u64, s: Segment) -> Backing
-    requires { ⌜ backs a n s ≡ true ⌝ }
-    ensures { λ r. ⌜ r ≡ backingIn s a ⌝ }
-{
-    Backing::At((s.offset + (a - s.vaddr)) as u32)
-}
-
 // The n bytes from a are inside the file part of the segment of an index. Only the fields that are asked for are read.
 fn is_backing_at(f: &[u8], h: Headers, a: u64, n: u64, i: u32) -> bool
     ensures { λ r. ⌜ r ≡ backsAt (now (f .entry)) h a n i ⌝ }
@@ -87,6 +79,17 @@ fn is_backing_at(f: &[u8], h: Headers, a: u64, n: u64, i: u32) -> bool
     )
 }
 
+// Where the bytes from a stand in the file, where the segment of an index backs n of them.
+fn backing_at(f: &[u8], h: Headers, a: u64, n: u64, i: u32) -> Backing
+    requires { ⌜ backsAt (now f) h a n i ≡ true ⌝ }
+    ensures { λ r. ⌜ r ≡ backingIn (headerAt (now (f .entry)) h i) a ⌝ }
+{
+    let at = h.table as usize + HEADER_BYTES * (i as usize);
+    let offset = reads::read64(f, at + 8);
+    let vaddr = reads::read64(f, at + 16);
+    Backing::At((offset + (a - vaddr)) as u32)
+}
+
 // Where the n bytes from a are backed.
 pub fn backing_of(f: &[u8], h: Headers, a: u64, n: u64) -> Backing
     ensures { λ r. ⌜ r ≡ backingOf (now (f .entry)) h a n ⌝ }
@@ -94,8 +97,7 @@ pub fn backing_of(f: &[u8], h: Headers, a: u64, n: u64) -> Backing
     let count = h.count;
     for i in 0..count {
         if is_backing_at(f, h, a, n, i) {
-            let s = header_at(f, h, i);
-            return backing_in(a, n, s);
+            return backing_at(f, h, a, n, i);
         }
     }
     Backing::Nowhere

@@ -22,24 +22,20 @@ abbrev μ-loop : tie.MeasureT-loop
 loop-holds : tie.Need-loop-holds Inv-loop μ-loop
 loop-holds c = (omega arith, rw sub-zero)
 
-backing-in-requires : tie.Need-backing-in-requires Inv-loop μ-loop
-unfolding backsAt
-backing-in-requires c κs =
-    let hit = c .before in
-    rw (c .header-at .ensures) (rw (← hit .before .is-backing-at .ensures) (hit .if1 .taken))
+backing-at-requires : tie.Need-backing-at-requires Inv-loop μ-loop
+backing-at-requires c κs = rw (← c .before .is-backing-at .ensures) (c .if1 .taken)
 
 returns : tie.Need-returns Inv-loop μ-loop
 unfolding backingOf backer
 returns c =
-    let header = c .before in
-    let hit = header .before in
+    let hit = c .before in
     let asked = hit .before in
     let l = asked .before .before .loop in
     let a = asked .before .before .before .before .args in
     let t = backsAt (a .f .now) (a .h) (a .a) (a .n) in
     let found : t (l .i) ≡ true = rw (← asked .is-backing-at .ensures) (hit .if1 .taken) in
     let e : first t 0 (a .h .count) ≡ l .i = l .inv .1 ∙ first-hit t (l .i) (a .h .count) (omega arith) found in
-    rw (e, lt-ltb (l .i) (a .h .count) (omega arith), ← header .header-at .ensures) (c .backing-in .ensures)
+    rw (e, lt-ltb (l .i) (a .h .count) (omega arith)) (c .backing-at .ensures)
 
 loop-again : tie.Need-loop-again Inv-loop μ-loop
 loop-again c =
@@ -61,5 +57,5 @@ returns-2 c =
 pub backing-of-spec : {M : Type 1} → statement M
 backing-of-spec =
     tie.close
-    (tie.spec Inv-loop μ-loop loop-holds (search needs) (search needs) backing-in-requires returns (search needs) (search needs) loop-again
+    (tie.spec Inv-loop μ-loop loop-holds (search needs) backing-at-requires returns (search needs) (search needs) loop-again
     returns-2)
