@@ -122,8 +122,8 @@ pub record Image (f : List ℕ) (m : Module) (n : ℕ) (image : List ℕ) : Type
   pub loaded-words : (x : ℕ) → le 8 image x ≡ loadedAt f (m .headers) x
 
 -- a packed place's address: the bias and the eight bytes that the image holds there, unsigned
-abbrev pub packedAddress : List ℕ → ℕ → Module → List ℕ → ℕ → ℕ
-packedAddress f bias m image k = bias + le 8 image (wordPlace f m k)
+abbrev pub heldAddress : List ℕ → ℕ → Module → List ℕ → ℕ → ℕ
+heldAddress f bias m image k = bias + le 8 image (wordPlace f m k)
 
 -- memory: each relocated word in its own eight bytes, that of a packed place its address with the tag at that address; and the
 -- image's bytes in no relocated word
@@ -135,7 +135,7 @@ pub record Memory (f : List ℕ) (bias n : ℕ) (m : Module) (image plane memory
   pub words : (k : ℕ) → Relocates f m k
       → le 8 memory (wordPlace f m k) ≡ wordAt f m bias n plane k
   pub packed-words : (k : ℕ) → IsPacked m k
-      → le 8 memory (wordPlace f m k) ≡ packedAddress f bias m image k + 2 ^ 56 * tagOf plane bias n (at (packedAddress f bias m image k))
+      → le 8 memory (wordPlace f m k) ≡ heldAddress f bias m image k + 2 ^ 56 * tagOf plane bias n (at (heldAddress f bias m image k))
   pub other-bytes : (x : ℕ) → ((k : ℕ) → Relocates f m k → wordPlace f m k ≤ x → x < wordPlace f m k + 8 → ⊥)
       → getD memory x 0 ≡ getD image x 0
 
@@ -213,7 +213,7 @@ pub data Rechosen (f : List ℕ) (p : ℕ) (m : Module) (l : Loaded) (o : Outcom
 
 -- a load's tags: against the plain loader, against its own plane, and with other choices; a packed place's source is its address
 pub record Tags (f : List ℕ) (bias n p : ℕ) (choices : List ℕ) (m : Module) (l : Loaded) : Type 0 where
-  pub packed-sources : (k : ℕ) → IsPacked m k → sourceAt f m bias k ≡ at (packedAddress f bias m (imageOf f (m .headers) n) k)
+  pub packed-sources : (k : ℕ) → IsPacked m k → sourceAt f m bias k ≡ at (heldAddress f bias m (imageOf f (m .headers) n) k)
   pub against-plain : Plain f bias n choices m (l .memory)
   pub matches : (k j : ℕ) → Relocates f m k → j < length (globalsIn f m) → Holds bias (globalAt (globalsIn f m) j) (sourceAt f m bias k)
       → Matches f bias n p m l k j

@@ -32,7 +32,7 @@ packedWord f at k = le 8 f (at + 8 * k)
 abbrev pub isPlace : ℕ → Bool
 isPlace w = eqb (w % 2) 0
 
--- a bitmap has so many bits for places, and is followed by the places so many bytes on
+-- a bitmap has so many bits for places, and the run moves on past it by so many bytes
 abbrev pub bitmapBits : ℕ
 bitmapBits = 63
 
@@ -48,7 +48,7 @@ placesIn (suc n) at bits = cond (eqb (bits % 2) 1) (at ∷ []) [] ++ placesIn n 
 unfoldable pub placesOf : ℕ → ℕ → List ℕ
 placesOf run w = cond (isPlace w) (w ∷ []) (placesIn bitmapBits run (w / 2))
 
--- the run after a word: it starts 8 bytes after a place, and moves on past a bitmap's
+-- the run after a word: it starts 8 bytes after a place, and moves on past a bitmap
 unfoldable pub runAfter : ℕ → ℕ → ℕ
 runAfter run w = cond (isPlace w) (w + 8) (run + bitmapBytes)
 
@@ -62,10 +62,11 @@ packedFrom f at run k (suc n) =
 abbrev pub packedBefore : List ℕ → ℕ → ℕ → List Named
 packedBefore f at k = packedFrom f at 0 0 k
 
--- check 15 of a word: a bitmap before any place; or one whose places make entries and packed places too many together
+-- word k is a place
 unfoldable pub isPlaceAt : List ℕ → ℕ → ℕ → Bool
 isPlaceAt f at k = isPlace (packedWord f at k)
 
+-- check 15 of a word: a bitmap before any place; or one whose places make entries and packed places too many together
 unfoldable pub badWord : List ℕ → ℕ → ℕ → ℕ → Bool
 badWord f at entries k =
     (not (isPlaceAt f at k) && not (someBelow (isPlaceAt f at) k))
