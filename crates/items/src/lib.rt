@@ -17,19 +17,19 @@ const R_AARCH64_ABS64: u32 = 257;
 
 const R_AARCH64_GLOB_DAT: u32 = 1025;
 
-const R_AARCH64_RELATIVE: u32 = 1027;
+pub const R_AARCH64_RELATIVE: u32 = 1027;
 
-const STT_TLS: u8 = 6;
+pub const STT_TLS: u8 = 6;
 
-const STT_GNU_IFUNC: u8 = 10;
+pub const STT_GNU_IFUNC: u8 = 10;
 
 const STB_WEAK: u8 = 2;
 
-const SHN_LORESERVE: u16 = 0xff00;
+pub const SHN_LORESERVE: u16 = 0xff00;
 
-const SYMBOL_BYTES: u64 = 24;
+pub const SYMBOL_BYTES: u64 = 24;
 
-const ENTRY_BYTES: usize = 24;
+pub const ENTRY_BYTES: usize = 24;
 
 // An entry's place.
 pub fn place_at(f: &[u8], r: Relocations, i: u32) -> u64
@@ -121,7 +121,7 @@ fn named_target(f: &[u8], p: Backing) -> Target
 }
 
 // The kinds that have a symbol.
-fn is_symbolic(kind: u32) -> bool
+pub fn is_symbolic(kind: u32) -> bool
     ensures { λ v. ⌜ v ≡ (eqb kind abs64 || eqb kind globDat) ⌝ }
 {
     if kind == R_AARCH64_ABS64 {

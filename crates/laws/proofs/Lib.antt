@@ -12,3 +12,4 @@ pub mod Places
 pub mod Packed
 pub mod PackedTable
 pub mod Loaded
+pub mod Tables

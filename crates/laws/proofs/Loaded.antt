@@ -52,31 +52,35 @@ facts-back a n s b =
 
 module _ (f : List ℕ) (h : Headers) (passed : loadsCheck f h ≡ good tt) where
   -- two PT_LOADs share no byte
-  one-backer : (x i j : ℕ) → i < j → j < h .count → Backed x 1 (headerAt f h i) → Backed x 1 (headerAt f h j) → ⊥
-  one-backer x i j l u a b =
-      let apart = loads-apart f h passed i j l u (a .loads) (b .loads) in
-      let g = load-good f h passed i (omega arith) (a .loads) in
-      let p = a .end in
-      let q = b .start in
+  one-backer : (a n i j : ℕ) → 0 < n → i < j → j < h .count → Backed a n (headerAt f h i) → Backed a n (headerAt f h j) → ⊥
+  one-backer a n i j z l u x y =
+      let apart = loads-apart f h passed i j l u (x .loads) (y .loads) in
+      let g = load-good f h passed i (omega arith) (x .loads) in
+      let p = x .end in
+      let q = y .start in
       let r = g .sized in
       omega arith
 
-  byte-part : (x i : ℕ) → i < h .count → Backed x 1 (headerAt f h i)
-      → byteOf f (backingOf f h x 1) ≡ getD f (headerAt f h i .offset + (x - headerAt f h i .vaddr)) 0
+  -- so bytes of a PT_LOAD's file part are backed there
+  pub backing-part : (a n i : ℕ) → 0 < n → i < h .count → backsAt f h a n i ≡ true → backingOf f h a n ≡ backingIn (headerAt f h i) a
   unfolding backingOf backer backsAt
-  byte-part x i l b =
-      let j = first (backsAt f h x 1) 0 (h .count) in
-      let hit : backsAt f h x 1 i ≡ true = facts-back x 1 (headerAt f h i) b in
+  backing-part a n i z l hit =
+      let j = first (backsAt f h a n) 0 (h .count) in
       ⊎-elim
       (λ (u : j ≤ i).
       ⊎-elim
       (λ (e : j ≡ i). rw (e, lt-ltb i (h .count) l))
       (λ (w : j < i).
-      let t = first-true (backsAt f h x 1) (h .count) 0 (omega arith) in
-      absurd (one-backer x j i w l (backs-facts x 1 (headerAt f h j) t) b))
+      let t = first-true (backsAt f h a n) (h .count) 0 (omega arith) in
+      absurd (one-backer a n j i z w l (backs-facts a n (headerAt f h j) t) (backs-facts a n (headerAt f h i) hit)))
       (eq-or-lt-of-le u))
-      (λ (u : i < j). true-false (sym hit ∙ first-below (backsAt f h x 1) (h .count) 0 i (omega arith) u))
+      (λ (u : i < j). true-false (sym hit ∙ first-below (backsAt f h a n) (h .count) 0 i (omega arith) u))
       (le-or-lt j i)
+
+  byte-part : (x i : ℕ) → i < h .count → Backed x 1 (headerAt f h i)
+      → byteOf f (backingOf f h x 1) ≡ getD f (headerAt f h i .offset + (x - headerAt f h i .vaddr)) 0
+  unfolding backsAt
+  byte-part x i l b = rw (backing-part x 1 i (omega arith) l (facts-back x 1 (headerAt f h i) b))
 
   bytes-part : (n a i : ℕ) → i < h .count → Backed a n (headerAt f h i)
       → loadedIn f h n a ≡ le n f (headerAt f h i .offset + (a - headerAt f h i .vaddr))

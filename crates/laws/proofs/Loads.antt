@@ -9,7 +9,7 @@ use native.Mathlib.Nat.{eq-or-lt-of-le, le-of-suc-le-suc}
 use native.Mathlib.Omega.{arith}
 use lib.ListN.{length}
 use lib.Dec.{leb, eqb}
-use borrow.Author.Tests.{leb-true, not-false}
+use borrow.Author.Tests.{leb-true, le-leb, not-false}
 use Rattle.rules.specs.Outcome.{good}
 use Rattle.rules.specs.Limits.{memoryLimit}
 use Rattle.rules.specs.Segments.{headerAt, isLoad, aligned, goodLoad, endBefore, badLoad, loadsCheck, loadsEnd}
@@ -45,6 +45,10 @@ goodLoad-facts size last s h =
 pub covers-within : (start size a n : ℕ) → covers start size a n ≡ true → (start ≤ a) × (a + n ≤ start + size)
 unfolding covers
 covers-within start size a n h = (leb-true _ _ (and-left (leb start a) _ h), leb-true _ _ (and-right (leb start a) _ h))
+
+pub within-covers : (start size a n : ℕ) → start ≤ a → a + n ≤ start + size → covers start size a n ≡ true
+unfolding covers
+within-covers start size a n l u = rw (le-leb start a l, le-leb (a + n) (start + size) u)
 
 module _ (f : List ℕ) (h : Headers) (passed : loadsCheck f h ≡ good tt) where
   pub load-good : (i : ℕ) → i < h .count → isLoad (headerAt f h i) ≡ true → Good (length f) (endBefore f h i) (headerAt f h i)

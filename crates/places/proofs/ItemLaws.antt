@@ -48,15 +48,7 @@ module _ (f : List ℕ) (m : Module) where
             left = o .1 ∙ ap (λ (s : List Named). drop 1 s) (r .left) ∙ drop-drop 1 j L;
           }
 
-  -- an entry is passed by; a packed place is the next
-  pub passed-entry : (c : Run) (i : ℕ) → i < m .relocations .entries → Reached f m c (i - m .relocations .entries) → Comes f m i c
-  passed-entry c i l r = record {
-    here = record { read = λ u. absurd (omega arith); place = λ u. absurd (omega arith); position = λ u. absurd (omega arith) };
-    onward = λ _.
-        let q : i + 1 - m .relocations .entries ≡ i - m .relocations .entries = omega arith in
-        rw q r;
-  }
-
+  -- the next packed place is an item
   pub come-next : (c v : Run) (i : ℕ) → m .relocations .entries ≤ i → Reached f m c (i - m .relocations .entries) → Next f (m .packed) c v
       → Comes f m i v
   come-next c v i l r n = record {

@@ -52,6 +52,9 @@ pub record Passing (rest₀ left₀ place₀ rest left place : ℕ) : Type 0 whe
   pub end : place + 8 * left ≡ place₀ + 8 * left₀
   pub same : placesIn left place rest ≡ placesIn left₀ place₀ rest₀
 
+pub passing-none : (rest left place : ℕ) → 0 < rest → rest < 2 ^ left → Passing rest left place rest left place
+passing-none rest left place some bits = record { some = some; bits = bits; few = omega arith; end = refl; same = refl }
+
 module _ {rest₀ left₀ place₀ rest left place : ℕ} (h : Passing rest₀ left₀ place₀ rest left place) where
   pub passing-left : 0 < left
   passing-left = bits-left left rest (h .some) (h .bits)

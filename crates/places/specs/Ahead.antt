@@ -48,7 +48,7 @@ pub record Here (f : List ℕ) (m : Module) (c : Run) (i : ℕ) : Type 0 where
   pub place : m .relocations .entries ≤ i → placeAt f m i ≡ c .place
   pub position : m .relocations .entries ≤ i → positionAt f m i ≡ m .relocations .entries + (c .words - 1)
 
--- reading comes to item i; behind an entry, and behind a place that is not too high, it stands before the next
+-- reading comes to item i; behind a place that is not too high it stands before the next
 pub record Comes (f : List ℕ) (m : Module) (i : ℕ) (v : Run) : Type 0 where
   pub here : Here f m v i
   pub onward : (m .relocations .entries ≤ i → v .place ≤ placeLimit) → Reached f m v (i + 1 - m .relocations .entries)

@@ -1,11 +1,9 @@
 // The packed places one after the other: the words of a packed table, read as their places are asked for.
 ghost use mathlib.Core.Path.{_≡_};
-ghost use Prim.Native.Nat.{_-_, _<_};
+ghost use Prim.Native.Nat.{_%_, _<_};
 ghost use lib.ListN.{length};
-ghost use Rattle.rules.specs.Packed.{packedWord, packedBefore};
-ghost use Rattle.rules.specs.Relocations.{items};
-ghost use Rattle.places.specs.Ahead.{ahead, Standing, Next, Reached, Comes};
-use rules::Module;
+ghost use Rattle.rules.specs.Packed.{packedWord};
+ghost use Rattle.places.specs.Ahead.{ahead, Standing, Next};
 use rules::Packed;
 
 // Bytes of a packed word, and of a place.
@@ -83,14 +81,16 @@ pub fn next_place(f: &[u8], t: Packed, c: Run) -> Run
     }
 }
 
-// Comes to item i of a module: its entries stand in their table, and are passed by.
-pub fn reach(f: &[u8], m: Module, c: Run, i: u32) -> Run
-    requires { ⌜ Reached (now f) m c (i - m .relocations .entries) × (i < items m) × (m .packed .places ≡ length (packedBefore (now f) (m .packed .at) (m .packed .words))) ⌝ }
-    ensures { λ v. ⌜ Comes (now (f .entry)) m i v ⌝ }
+// The same where the lowest bit left names a place: no word is read.
+pub fn near_place(f: &[u8], t: Packed, c: Run) -> Run
+    requires { ⌜ Standing (now f) t c × (0 < length (ahead (now f) t c)) × (c .rest % 2 ≡ 1) ⌝ }
+    ensures { λ v. ⌜ Next (now (f .entry)) t c v ⌝ }
 {
-    if i < m.relocations.entries {
-        return c;
+    Run {
+        words: c.words,
+        rest: c.rest / 2,
+        left: c.left - 1,
+        at: c.at + 8,
+        place: c.at,
     }
-    let t = m.packed;
-    next_place(f, t, c)
 }

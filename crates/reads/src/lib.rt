@@ -7,7 +7,8 @@ ghost use lib.ListN.{length, getD};
 ghost use Rattle.rules.specs.Bytes.{le, part};
 ghost use Rattle.rules.specs.Segments.{covers};
 
-fn byte(s: &[u8], at: usize) -> u8
+// A byte of the list. This and the three after it have no test: a caller knows that they do not pass the end.
+pub fn byte(s: &[u8], at: usize) -> u8
     requires { ⌜ at < length (now s) ⌝ }
     ensures { λ r. ⌜ r ≡ getD (now (s .entry)) at 0 ⌝ }
 {
@@ -20,21 +21,24 @@ fn wide(x: u8) -> u64
     x as u64
 }
 
-fn le16(s: &[u8], at: usize) -> u16
+// The number of the two bytes from a position on.
+pub fn le16(s: &[u8], at: usize) -> u16
     requires { ⌜ at + 2 ≤ length (now s) ⌝ }
     ensures { λ r. ⌜ r ≡ le 2 (now (s .entry)) at ⌝ }
 {
     byte(s, at) as u16 + 256 * (byte(s, at + 1) as u16)
 }
 
-fn le32(s: &[u8], at: usize) -> u32
+// Of four.
+pub fn le32(s: &[u8], at: usize) -> u32
     requires { ⌜ at + 4 ≤ length (now s) ⌝ }
     ensures { λ r. ⌜ r ≡ le 4 (now (s .entry)) at ⌝ }
 {
     le16(s, at) as u32 + 65536 * (le16(s, at + 2) as u32)
 }
 
-fn le64(s: &[u8], at: usize) -> u64
+// Of eight.
+pub fn le64(s: &[u8], at: usize) -> u64
     requires { ⌜ at + 8 ≤ length (now s) ⌝ }
     ensures { λ r. ⌜ r ≡ le 8 (now (s .entry)) at ⌝ }
 {

@@ -2,13 +2,13 @@
 -- Assumes nothing.
 use Prim.Native.Nat.{ℕ, zero, suc, _+_, _-_, _≤_, _<_}
 use mathlib.Core.Path.{_≡_, refl, sym, _∙_}
-use mathlib.Core.Bool.{Bool, true, false, cond}
+use mathlib.Core.Bool.{Bool, true, false, cond, _||_, or-true}
 use mathlib.Core.Logic.{⊎-elim}
 use native.Mathlib.Nat.{eq-or-lt-of-le, add-zero, zero-add}
 use native.Mathlib.Numerals.{add-one}
 use native.Mathlib.Omega.{arith}
-use lib.Dec.{eqb}
-use borrow.Author.Tests.{ltb-false, lt-ltb, le-ltb, eq-eqb, ne-eqb}
+use lib.Dec.{ltb, eqb}
+use borrow.Author.Tests.{ltb-true, ltb-false, lt-ltb, le-ltb, eq-eqb, ne-eqb, eqb-true, eqb-false}
 use Rattle.rules.specs.Outcome.{good, refuse}
 use Rattle.rules.specs.First.{first, someBelow, countBelow, faultless}
 use Rattle.rules.proofs.OutcomeLaws.{true-false}
@@ -117,6 +117,36 @@ module _ (f : ℕ → Bool) where
       go true h = omega arith
       go false h = omega arith
 
+  -- one index more
+  pub some-next : (n : ℕ) → someBelow f (n + 1) ≡ (f n || someBelow f n)
+  some-next n = rw (first-next n) (go (f n) (eqb (first f 0 n) n) refl)
+    where
+      go : (b c : Bool) → eqb (first f 0 n) n ≡ c
+          → ltb (cond b (first f 0 n) (cond c (n + 1) (first f 0 n))) (n + 1) ≡ (b || ltb (first f 0 n) n)
+      go true c e = let l = first-le n 0 in lt-ltb (first f 0 n) (n + 1) (omega arith)
+      go false true e = let s = eqb-true (first f 0 n) n e in le-ltb (n + 1) (n + 1) (omega arith) ∙ sym (le-ltb (first f 0 n) n (omega arith))
+      go false false e =
+          let d = eqb-false (first f 0 n) n e in
+          let l = first-le n 0 in
+          lt-ltb (first f 0 n) (n + 1) (omega arith) ∙ sym (lt-ltb (first f 0 n) n (omega arith))
+
+  -- an index at which it holds, where it does at none before, is the first
+  pub first-is : (n v : ℕ) → v ≤ n → (v < n → f v ≡ true) → ((i : ℕ) → i < v → f i ≡ false) → v ≡ first f 0 n
+  first-is n v l hit none = go (ltb v (first f 0 n)) (ltb (first f 0 n) v) refl refl
+    where
+      go : (a b : Bool) → ltb v (first f 0 n) ≡ a → ltb (first f 0 n) v ≡ b → v ≡ first f 0 n
+      go true b p q =
+          let u = ltb-true v (first f 0 n) p in
+          let w = first-le n 0 in
+          true-false (sym (hit (omega arith)) ∙ first-below n 0 v (omega arith) u)
+      go false true p q =
+          let u = ltb-true (first f 0 n) v q in
+          true-false (sym (first-true n 0 (omega arith)) ∙ none (first f 0 n) u)
+      go false false p q =
+          let u = ltb-false v (first f 0 n) p in
+          let w = ltb-false (first f 0 n) v q in
+          omega arith
+
 -- two tests that agree below the end have the same answer
 pub first-same : (f g : ℕ → Bool) (k i : ℕ) → ((j : ℕ) → i ≤ j → j < i + k → f j ≡ g j) → first f i k ≡ first g i k
 unfolding first
@@ -125,6 +155,27 @@ first-same f g (suc k) i h =
     let e : f i ≡ g i = h i (omega arith) (omega arith) in
     let r : first f (i + 1) k ≡ first g (i + 1) k = first-same f g k (i + 1) (λ j a b. h j (omega arith) (omega arith)) in
     rw (e, r)
+
+-- the lowest of two tests is the lowest of the second before the lowest of the first
+pub first-or : (f g : ℕ → Bool) (n : ℕ) → first (λ i. f i || g i) 0 n ≡ first g 0 (first f 0 n)
+first-or f g n =
+    let a = first-le f n 0 in
+    let b = first-le g (first f 0 n) 0 in
+    sym
+    (first-is (λ i. f i || g i) n (first g 0 (first f 0 n)) (omega arith)
+    (λ l. there (ltb (first g 0 (first f 0 n)) (first f 0 n)) refl l)
+    (λ i l. rw (first-below f n 0 i (omega arith) (omega arith), first-below g (first f 0 n) 0 i (omega arith) l)))
+  where
+    there : (x : Bool) → ltb (first g 0 (first f 0 n)) (first f 0 n) ≡ x → first g 0 (first f 0 n) < n
+        → (f (first g 0 (first f 0 n)) || g (first g 0 (first f 0 n))) ≡ true
+    there true e l =
+        let k = ltb-true (first g 0 (first f 0 n)) (first f 0 n) e in
+        rw (first-true g (first f 0 n) 0 (omega arith), or-true)
+    there false e l =
+        let k = ltb-false (first g 0 (first f 0 n)) (first f 0 n) e in
+        let b = first-le g (first f 0 n) 0 in
+        let s : first g 0 (first f 0 n) ≡ first f 0 n = omega arith in
+        rw (s, first-true f n 0 (omega arith))
 
 -- a check of faults, where a walk found the lowest and where it found none
 pub faultless-hit : (number : ℕ) (f : ℕ → Bool) (n i : ℕ) → first f 0 n ≡ i → i < n → faultless number f n ≡ refuse number i
