@@ -1,0 +1,136 @@
+// The lowest item whose place shares a byte with an earlier one's: the places are put into a map one after the other.
+ghost use mathlib.Core.Path.{_≡_};
+ghost use mathlib.Core.Bool.{true};
+ghost use Prim.Native.Nat.{_+_, _*_, _≤_};
+ghost use lib.ListN.{length};
+ghost use Rattle.rules.specs.Limits.{memoryLimit};
+ghost use Rattle.rules.specs.Packed.{packedBefore};
+ghost use Rattle.rules.specs.Relocations.{items};
+ghost use Rattle.items.specs.Table.{Inside, Bounded, Rising};
+ghost use Rattle.windows.specs.Window.{Wide, Clear};
+ghost use Rattle.repeats.specs.Repeats.{Lowers};
+ghost use Rattle.repeats.specs.Search.{large, small, overlap, Passed, Finds, Walkable, Above, Searched};
+use places::START;
+use rules::Module;
+
+// The lowest item that repeats, and the position at which it is reported.
+pub struct Lowest {
+    pub item: u32,
+    pub position: u64,
+}
+
+// The windows of a large module start so many bytes apart; a small module is in one.
+const LARGE: u64 = 1048576;
+
+const SMALL: u64 = 65536;
+
+// Their windows. Each goes on by 8 bytes, so that two places that share a byte are both in the one in which the lower starts.
+const LARGE_WINDOW: u64 = LARGE + 8;
+
+const SMALL_WINDOW: u64 = SMALL + 8;
+
+// The lowest packed place below the item found that repeats in a window, where no entry does and the map has their places.
+fn meet_packed(map: &mut [u8], f: &[u8], m: Module, found: Lowest, lo: u64, size: u64) -> Lowest
+    requires { ⌜ Wide size (now map) × Walkable (now f) m (found .item) × Passed (now f) m lo size found (now map) ⌝ }
+    ensures { λ v. ⌜ Finds (now (f .entry)) m lo size found v ⌝ }
+{
+    let entries = m.relocations.entries;
+    let mut run = START;
+    let mut i = entries;
+    while i < found.item {
+        let t = m.packed;
+        if run.rest % 2 == 1 {
+            run = places::near_place(f, t, run);
+        } else {
+            run = places::next_place(f, t, run);
+        }
+        if windows::meet_in(map, run.place, lo, size) {
+            return Lowest {
+                item: i,
+                position: entries as u64 + (run.words - 1) as u64,
+            };
+        }
+        i += 1;
+    }
+    found
+}
+
+// The lesser.
+fn least(a: u32, b: u32) -> u32
+    ensures { λ r. ⌜ (r ≤ a) × (r ≤ b) × (a ≤ b → r ≡ a) × (b ≤ a → r ≡ b) ⌝ }
+{
+    if a < b {
+        return a;
+    }
+    b
+}
+
+// The lowest item below the one found that repeats in a window, with a map that has no place.
+fn meet_items(map: &mut [u8], f: &[u8], m: Module, found: Lowest, lo: u64, size: u64) -> Lowest
+    requires { ⌜ Wide size (now map) × Clear (now map) × Walkable (now f) m (found .item) ⌝ }
+    ensures { λ v. ⌜ Finds (now (f .entry)) m lo size found v ⌝ }
+{
+    let r = m.relocations;
+    let n = least(found.item, r.entries);
+    let i = windows::meet_entries(map, f, r, n, lo, size);
+    if i < n {
+        return Lowest {
+            item: i,
+            position: i as u64,
+        };
+    }
+    meet_packed(map, f, m, found, lo, size)
+}
+
+// The same with a map of its own, in the window of a small module.
+fn find_small(f: &[u8], m: Module, found: Lowest, lo: u64) -> Lowest
+    requires { ⌜ Walkable (now f) m (found .item) ⌝ }
+    ensures { λ v. ⌜ Finds (now (f .entry)) m lo (small + overlap) found v ⌝ }
+{
+    let mut map = [0u8; 4098];
+    meet_items(&mut map, f, m, found, lo, SMALL_WINDOW)
+}
+
+// In one of a large module.
+fn find_in(f: &[u8], m: Module, found: Lowest, lo: u64) -> Lowest
+    requires { ⌜ Walkable (now f) m (found .item) ⌝ }
+    ensures { λ v. ⌜ Finds (now (f .entry)) m lo (large + overlap) found v ⌝ }
+{
+    let mut map = [0u8; 65538];
+    meet_items(&mut map, f, m, found, lo, LARGE_WINDOW)
+}
+
+// In k windows one after the other, each below the lowest found before it. It calls itself so that the map of a large module is not
+// in the frames of its callers.
+fn find_windows(f: &[u8], m: Module, found: Lowest, lo: u64, k: u64) -> Lowest
+    requires { ⌜ Walkable (now f) m (found .item) × Above (now f) m (found .item) lo × (lo + large * k ≤ memoryLimit + large) ⌝ }
+    ensures { λ v. ⌜ Searched (now (f .entry)) m (found .item) (lo + large * k) v ⌝ }
+{
+    if k == 0 {
+        return found;
+    }
+    let before = find_windows(f, m, found, lo, k - 1);
+    find_in(f, m, before, lo + LARGE * (k - 1))
+}
+
+// The lowest of the first n items whose place shares a byte with an earlier one's; n where there is none. The places are from low to top;
+// where they are known to rise, none is met twice and no map is needed.
+pub fn find_repeat(f: &[u8], m: Module, n: u32, low: u64, top: u64, rising: bool) -> Lowest
+    requires { ⌜ Inside (now f) m × (n ≤ items m) × (m .packed .places ≡ length (packedBefore (now f) (m .packed .at) (m .packed .words))) × Bounded (now f) m n low top × (top ≤ memoryLimit) × (rising ≡ true → Rising (now f) m n) ⌝ }
+    ensures { λ v. ⌜ Lowers (now (f .entry)) m n v ⌝ }
+{
+    let found = Lowest {
+        item: n,
+        position: 0,
+    };
+    if rising {
+        return found;
+    }
+    if top < low {
+        return found;
+    }
+    if top - low < SMALL {
+        return find_small(f, m, found, low);
+    }
+    find_windows(f, m, found, low, (top - low) / LARGE + 1)
+}
