@@ -20,13 +20,13 @@ use Rattle.rules.specs.declared.Headers.{Headers}
 use Rattle.rules.specs.declared.Module.{Module}
 use Rattle.rules.specs.declared.Target.{Target}
 use Rattle.rules.specs.declared.Target.the-variants.{Defined}
-use Rattle.rules.proofs.OutcomeLaws.{never, and-right}
+use Rattle.rules.proofs.OutcomeLaws.{never, true-false, and-right}
 use Rattle.laws.proofs.Loads.{end-limit, in-memory}
 use Rattle.laws.proofs.Items.{entry-live, entry-target, packed-addend, packed-target}
 use Rattle.segments.specs.Spans.{Sound, Held}
 use Rattle.segments.specs.declared.Span.{Span}
 use Rattle.segments.proofs.SpanLaws.{sound-none}
-use Rattle.judging.specs.Judges.{itemFault, skippedKey, keyAt, Fitted, Judges}
+use Rattle.judging.specs.Judges.{itemFault, Fitted, Judges}
 
 -- an address out of range, as the answer tells it
 pub outside-out : (z : ℤ) → inRange z ≡ Outside → outOfRange z ≡ true
@@ -72,38 +72,38 @@ module _ (f : List ℕ) (h : Headers) (p : ℕ) where
 -- ---- what is found of an item
 
 module _ (f : List ℕ) (m : Module) (bias i : ℕ) (last : Span) (sound : Sound f (m .headers) true last) where
-  pub judged-skipped : live f m i ≡ false → Judges f m bias i (record { number = 0; key = skippedKey; words = 0; outside = false; span = last })
-  unfolding itemFault keyAt badAddress
-  judged-skipped z = record { fault = rw z; key = λ _. rw z; words = λ _. rw z; outside = λ _. rw z; sound = sound }
+  pub judged-skipped : live f m i ≡ false → Judges f m bias i (record { number = 0; kept = false; place = 0; outside = false; span = last })
+  unfolding itemFault badAddress
+  judged-skipped z = record { fault = rw z; kept = λ _. sym z; place = λ _ k. true-false (sym k); outside = λ _. rw z; sound = sound }
 
   -- a fault and what stands beside it
   faulty-judged : (number : ℕ) → (number ≡ 0 → ⊥) → number ≡ itemFault f m i
-      → Judges f m bias i (record { number = number; key = skippedKey; words = 0; outside = true; span = last })
+      → Judges f m bias i (record { number = number; kept = true; place = 0; outside = true; span = last })
   faulty-judged number some e = record {
     fault = e;
-    key = λ z. absurd (some z);
-    words = λ z. absurd (some z);
+    kept = λ z. absurd (some z);
+    place = λ z. absurd (some z);
     outside = λ z. absurd (some z);
     sound = sound;
   }
 
   module _ (z : live f m i ≡ true) where
     pub judged-barred : barred (targetAt f m i) ≡ true
-        → Judges f m bias i (record { number = 10; key = skippedKey; words = 0; outside = true; span = last })
+        → Judges f m bias i (record { number = 10; kept = true; place = 0; outside = true; span = last })
     unfolding itemFault
     judged-barred b = faulty-judged 10 (λ q. omega arith) (rw (z, b))
 
     pub judged-misfit : barred (targetAt f m i) ≡ false → placeFits f (m .headers) (placeAt f m i) ≡ false
-        → Judges f m bias i (record { number = 11; key = skippedKey; words = 0; outside = true; span = last })
+        → Judges f m bias i (record { number = 11; kept = true; place = 0; outside = true; span = last })
     unfolding itemFault
     judged-misfit b p = faulty-judged 11 (λ q. omega arith) (rw (z, b, p))
 
     pub judged-good : (place : ℕ) (outside : Bool) → barred (targetAt f m i) ≡ false
         → placeAt f m i ≡ place → placeFits f (m .headers) place ≡ true → outside ≡ outOfRange (addressAt f m bias i)
-        → Judges f m bias i (record { number = 0; key = place; words = 1; outside = outside; span = last })
-    unfolding itemFault keyAt badAddress
+        → Judges f m bias i (record { number = 0; kept = true; place = place; outside = outside; span = last })
+    unfolding itemFault badAddress
     judged-good place outside b e p o =
-        record { fault = rw (z, b, e, p); key = λ _. rw z (sym e); words = λ _. rw z; outside = λ _. rw z o; sound = sound }
+        record { fault = rw (z, b, e, p); kept = λ _. sym z; place = λ _ _. sym e; outside = λ _. rw z o; sound = sound }
 
 -- ---- an entry
 

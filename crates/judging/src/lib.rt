@@ -7,9 +7,7 @@ ghost use Rattle.rules.specs.Segments.{loadsCheck};
 ghost use Rattle.rules.specs.Relocations.{placeAt};
 ghost use Rattle.rules.specs.Addresses.{addressOf, outOfRange};
 ghost use Rattle.segments.specs.Spans.{Sound};
-ghost use Rattle.places.specs.Ahead.{Here};
-ghost use Rattle.judging.specs.Judges.{skippedKey, Fitted, Judges};
-use places::Run;
+ghost use Rattle.judging.specs.Judges.{Fitted, Judges};
 use rules::Address;
 use rules::Headers;
 use rules::Module;
@@ -17,17 +15,14 @@ use rules::Target;
 use segments::NO_SPAN;
 use segments::Span;
 
-// Kept for a skipped item in the search for a repeated place: no place that fits.
-pub const SKIPPED: u64 = 1;
-
 // What is found of one item.
 pub struct Judged {
     // 0, 10 or 11.
     pub number: u8,
-    // Its place, or SKIPPED.
-    pub key: u64,
-    // How many words it relocates.
-    pub words: u32,
+    // It is not skipped.
+    pub kept: bool,
+    // Its place, where it is kept.
+    pub place: u64,
     // Its address is out of range.
     pub outside: bool,
     // The PT_LOAD found last.
@@ -47,12 +42,12 @@ fn is_outside(bias: u64, t: Target, addend: u64) -> bool
 
 // An item with a fault.
 fn faulty(number: u8, last: Span) -> Judged
-    ensures { λ v. ⌜ v ≡ record { number = number; key = skippedKey; words = 0; outside = true; span = last } ⌝ }
+    ensures { λ v. ⌜ v ≡ record { number = number; kept = true; place = 0; outside = true; span = last } ⌝ }
 {
     Judged {
         number: number,
-        key: SKIPPED,
-        words: 0,
+        kept: true,
+        place: 0,
         outside: true,
         span: last,
     }
@@ -69,8 +64,8 @@ fn hold_place(f: &[u8], h: Headers, last: Span, place: u64) -> Span
     segments::hold_writable(f, h, last, place, 8)
 }
 
-// An entry of the RELA table.
-fn judge_entry(f: &[u8], m: Module, bias: u64, last: Span, i: u32) -> Judged
+// An entry of the RELA table, but for the places of the items before it.
+pub fn judge_entry(f: &[u8], m: Module, bias: u64, last: Span, i: u32) -> Judged
     requires { ⌜ Sound (now f) (m .headers) true last × (i < m .relocations .entries) ⌝ }
     ensures { λ v. ⌜ Judges (now (f .entry)) m bias i v ⌝ }
 {
@@ -79,8 +74,8 @@ fn judge_entry(f: &[u8], m: Module, bias: u64, last: Span, i: u32) -> Judged
     if kind == 0 {
         return Judged {
             number: 0,
-            key: SKIPPED,
-            words: 0,
+            kept: false,
+            place: 0,
             outside: false,
             span: last,
         };
@@ -101,15 +96,15 @@ fn judge_entry(f: &[u8], m: Module, bias: u64, last: Span, i: u32) -> Judged
     let outside = is_outside(bias, t, addend);
     Judged {
         number: 0,
-        key: place,
-        words: 1,
+        kept: true,
+        place: place,
         outside: outside,
         span: span,
     }
 }
 
-// A packed place.
-fn judge_packed(f: &[u8], m: Module, bias: u64, last: Span, place: u64) -> Judged
+// A packed place, but for the places of the items before it.
+pub fn judge_packed(f: &[u8], m: Module, bias: u64, last: Span, place: u64) -> Judged
     requires { ⌜ Sound (now f) (m .headers) true last × (loadsCheck (now f) (m .headers) ≡ good tt) ⌝ }
     ensures { λ v. ⌜ ((i : ℕ) → m .relocations .entries ≤ i → placeAt (now (f .entry)) m i ≡ place → Judges (now (f .entry)) m bias i v) ⌝ }
 {
@@ -122,20 +117,9 @@ fn judge_packed(f: &[u8], m: Module, bias: u64, last: Span, place: u64) -> Judge
     let outside = is_outside(bias, Target::Defined(loaded), 0);
     Judged {
         number: 0,
-        key: place,
-        words: 1,
+        kept: true,
+        place: place,
         outside: outside,
         span: span,
     }
-}
-
-// One item, but for the places of the items before it; a packed place is the one that was found last.
-pub fn judge(f: &[u8], m: Module, bias: u64, last: Span, c: Run, i: u32) -> Judged
-    requires { ⌜ Sound (now f) (m .headers) true last × (loadsCheck (now f) (m .headers) ≡ good tt) × Here (now f) m c i ⌝ }
-    ensures { λ v. ⌜ Judges (now (f .entry)) m bias i v ⌝ }
-{
-    if i < m.relocations.entries {
-        return judge_entry(f, m, bias, last, i);
-    }
-    judge_packed(f, m, bias, last, c.place)
 }
