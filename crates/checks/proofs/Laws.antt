@@ -24,7 +24,8 @@ use Rattle.rules.specs.declared.Module.{Module}
 use Rattle.rules.specs.declared.Walked.{Walked}
 use Rattle.rules.specs.declared.Checked.the-variants as answer
 use Rattle.demands.proofs.Reading.{module-reads}
-use Rattle.relocations.specs.Walk.{markOf, walkOf}
+use Rattle.tallies.specs.Tallies.{markOf}
+use Rattle.relocations.specs.Walk.{walkOf}
 use Rattle.relocations.proofs.Laws.{walk-found, walk-refused}
 use Rattle.checks.specs.Lent.{markCheck, lentIn}
 

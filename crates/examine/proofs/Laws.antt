@@ -12,13 +12,16 @@ use Rattle.rules.specs.declared.Walked.{Walked}
 use Rattle.laws.proofs.Stages.{examined-stages}
 use Rattle.demands.proofs.Reading.{module-reads}
 use Rattle.demands.proofs.Refusals.{module-good, module-packs}
-use Rattle.relocations.specs.Walk.{Ready, walkOf}
+use Rattle.laws.proofs.Tables.{relocations-inside}
+use Rattle.entry_faults.specs.Seen.{Ready}
+use Rattle.relocations.specs.Walk.{walkOf}
 use Rattle.relocations.proofs.Laws.{walk-found, walk-refused}
 
 -- a module that was read is ready for the walk
 pub module-ready : (f : List ℕ) (m : Module) → moduleOf f ≡ good m → Ready f m
 module-ready f m e = record {
   loads = module-reads f m e .loads;
+  inside = relocations-inside f (m .headers) (module-reads f m e .loads) (m .dynamic) (m .relocations) (module-reads f m e .relocations);
   counted = module-good f m e .counted;
   few = module-packs f m e .few;
 }
