@@ -22,6 +22,7 @@ use Rattle.rules.proofs.OutcomeLaws.{andThen-good}
 use Rattle.laws.proofs.Checks.{andThen-bad}
 use Rattle.laws.proofs.Items.{packed-live}
 use Rattle.laws.proofs.Places.{address-ranged}
+use Rattle.laws.proofs.Tables.{relocations-inside}
 use Rattle.laws.proofs.Writes.{writes-same}
 use Rattle.demands.specs.Calls.{Buffers, loadInto, Call}
 use Rattle.demands.proofs.Exactly.{Passes, checks-passes, passes-taken, load-unread, load-refused}
@@ -29,7 +30,7 @@ use Rattle.demands.proofs.Reading.{module-reads}
 use Rattle.demands.proofs.Image.{image-size}
 use Rattle.demands.proofs.Refusals.{module-good, module-packs}
 use Rattle.demands.proofs.Standing.{passes-stands, held-image}
-use Rattle.relocating.specs.Words.{targetOver, wordIn, Placed}
+use Rattle.rela_words.specs.Words.{targetOver, wordIn, Placed}
 use Rattle.relocating.proofs.WriteLaws.{relocated-writes}
 use Rattle.tags.proofs.Laws.{plane-tagged}
 use Rattle.load.specs.Written.{writtenPlane, writtenMemory}
@@ -56,11 +57,14 @@ module _ (f : List ℕ) (bias n p : ℕ) (choices : List ℕ) (m : Module) (c : 
   word-written : (plane : List ℕ) (k : ℕ) → wordIn f m bias plane image k ≡ wordAt f m bias n plane k
   word-written plane k = rw (target-written k, image-size f (m .headers) n, held k)
 
-  -- the packed places are counted, and lie in memory
+  -- the PT_LOADs are good and the entries inside the file; the packed places are counted, and lie in memory
   pub packed-placed : Placed f m
   packed-placed =
       let s = passes-stands f bias n p choices m c in
+      let r = module-reads f m (c .reads) in
       record {
+        loads = r .loads;
+        inside = relocations-inside f (m .headers) (r .loads) (m .dynamic) (m .relocations) (r .relocations);
         counted = module-good f m (c .reads) .counted;
         few = module-packs f m (c .reads) .few;
         low = λ k l u.

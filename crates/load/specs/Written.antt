@@ -7,7 +7,7 @@ use Rattle.rules.specs.Descriptors.{tableStart, descriptorTable}
 use Rattle.rules.specs.Relocations.{items}
 use Rattle.rules.specs.Image.{imageOf}
 use Rattle.rules.specs.declared.Module.{Module}
-use Rattle.relocating.specs.Words.{relocated}
+use Rattle.rela_words.specs.Words.{relocated}
 use Rattle.tags.specs.Walks.{taggedFrom}
 
 -- the plane and the memory that the writes leave, whatever the module

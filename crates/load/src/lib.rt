@@ -3,7 +3,7 @@ ghost use mathlib.Core.Path.{_≡_};
 ghost use lib.ListN.{length};
 ghost use Rattle.rules.specs.Answers.{ofAnswer};
 ghost use Rattle.demands.specs.Calls.{Call, buffers};
-ghost use Rattle.relocating.specs.Words.{Placed};
+ghost use Rattle.rela_words.specs.Words.{Placed};
 ghost use Rattle.load.specs.Written.{writtenPlane, writtenMemory};
 use rules::Answer;
 use rules::Module;

@@ -2,7 +2,7 @@
 -- Assumes nothing.
 use mathlib.Core.Path.{_∙_}
 use borrow.Author.Needs.{needs}
-use Rattle.relocating.proofs.WriteLaws.{relocated-more}
+use Rattle.rela_words.proofs.Laws.{relocated-more}
 use Rattle.relocating.proofs.relocate.Statement.{statement}
 use Rattle.relocating.proofs.relocate.Tie as tie
 
@@ -21,4 +21,4 @@ relocate-packed-requires c κs =
     E .before .before .before .before .before .pre
 
 pub relocate-spec : {M : Type 1} → statement M
-relocate-spec = tie.close (tie.spec (search needs) relocate-packed-requires (search needs) returns)
+relocate-spec = tie.close (tie.spec (λ c κs. c .before .before .before .before .pre) relocate-packed-requires (search needs) returns)

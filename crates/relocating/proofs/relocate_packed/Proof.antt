@@ -7,8 +7,9 @@ use native.Mathlib.Omega.{arith}
 use borrow.Author.Needs.{needs}
 use Rattle.places.specs.Ahead.{Reached}
 use Rattle.places.proofs.ItemLaws.{reached-start, reached-more, reached-here, reached-next}
-use Rattle.relocating.specs.Words.{relocatedFrom}
-use Rattle.relocating.proofs.WriteLaws.{packed-written, relocated-length}
+use Rattle.rela_words.specs.Words.{relocatedFrom}
+use Rattle.rela_words.proofs.Laws.{relocated-length}
+use Rattle.relocating.proofs.WriteLaws.{packed-written}
 use Rattle.relocating.proofs.relocate_packed.Statement.{statement}
 use Rattle.relocating.proofs.relocate_packed.Tie as tie
 

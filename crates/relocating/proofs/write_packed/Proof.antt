@@ -1,7 +1,7 @@
 -- The place is read, and then the low 64 bits of the word of what it holds are put there.
 -- Assumes nothing.
 use borrow.Author.Needs.{needs}
-use Rattle.relocating.proofs.WriteLaws.{put-mod}
+use Rattle.rela_words.proofs.Laws.{put-mod}
 use Rattle.relocating.proofs.write_packed.Statement.{statement}
 use Rattle.relocating.proofs.write_packed.Tie as tie
 

@@ -5,22 +5,34 @@ use mathlib.Core.Path.{_≡_}
 use mathlib.Core.Bool.{cond}
 use mathlib.Core.List.{List}
 use lib.ListN.{length}
+use Rattle.rules.specs.Outcome.{good}
 use Rattle.rules.specs.Limits.{entryLimit}
 use Rattle.rules.specs.Bytes.{le}
 use Rattle.rules.specs.Memory.{putWord, mod64}
+use Rattle.rules.specs.Segments.{loadsCheck}
 use Rattle.rules.specs.Packed.{packedBefore}
-use Rattle.rules.specs.Relocations.{kindAt, symbolAt, isPacked, placeAt, addendAt, live, items, target}
+use Rattle.rules.specs.Relocations.{entryAt, kindAt, symbolAt, isPacked, placeAt, addendAt, live, items, target}
 use Rattle.rules.specs.Addresses.{addressOf}
 use Rattle.rules.specs.Words.{sourceTag, withTag, wordOf}
 use Rattle.rules.specs.declared.Module.{Module}
 use Rattle.rules.specs.declared.Target.{Target}
 use Rattle.rules.specs.declared.Target.the-variants.{Defined}
 use Rattle.places.specs.Ahead.{placeLimit}
+use Rattle.items.specs.Table.{Inside}
 
 -- the word of a target at a place: its address modulo 2^64, and the tag of its source over what the place holds
 abbrev pub targetWord : List ℕ → ℕ → List ℕ → Target → ℕ → ℕ → ℕ
 targetWord plane bias mem t addend place =
     withTag (mod64 (addressOf bias t addend)) (sourceTag plane bias (length mem) t addend (le 8 mem place))
+
+-- a memory with the word of the entry at a position of the file, by its target
+abbrev pub putEntry : List ℕ → ℕ → Target → ℕ → List ℕ → List ℕ → List ℕ
+putEntry f at t bias plane mem = putWord mem (le 8 f at) (targetWord plane bias mem t (le 8 f (at + 16)) (le 8 f at))
+
+-- entry i of a module stands at a position
+pub record StandsAt (m : Module) (i at : ℕ) : Type 0 where
+  pub entry : i < m .relocations .entries
+  pub here : entryAt (m .relocations) i ≡ at
 
 -- the target of an item; of a packed place, what its place holds
 unfoldable pub targetOver : List ℕ → Module → List ℕ → ℕ → Target
@@ -48,8 +60,10 @@ relocated f m bias plane mem n = relocatedFrom f m bias plane mem 0 n
 abbrev pub wordIn : List ℕ → Module → ℕ → List ℕ → List ℕ → ℕ → ℕ
 wordIn f m bias plane mem i = wordOf plane bias (length mem) (targetOver f m mem i) (addendAt f m i) (le 8 mem (placeAt f m i))
 
--- the packed places of a module are counted and few, and none is too high
+-- a module that was read: its PT_LOADs are good, its entries inside the file; its packed places counted and few, and none too high
 pub record Placed (f : List ℕ) (m : Module) : Type 0 where
+  pub loads : loadsCheck f (m .headers) ≡ good tt
+  pub inside : Inside f m
   pub counted : m .packed .places ≡ length (packedBefore f (m .packed .at) (m .packed .words))
   pub few : items m ≤ entryLimit
   pub low : (k : ℕ) → m .relocations .entries ≤ k → k < items m → placeAt f m k ≤ placeLimit

@@ -1,0 +1,31 @@
+-- Place and addend are read, then what the place holds; and then the word's low 64 bits are put there.
+-- Assumes nothing.
+use borrow.Author.Needs.{needs}
+use Rattle.rela_words.proofs.Laws.{put-mod}
+use Rattle.rela_words.proofs.write_word.Statement.{statement}
+use Rattle.rela_words.proofs.write_word.Tie as tie
+
+returns : tie.Need-returns
+returns c =
+    let P = c .before .before in
+    let W = P .before in
+    let B = W .before .before in
+    let S = B .before in
+    let R = S .before in
+    let D = R .before .before in
+    rw (
+      ← D .before .le64 .ensures,
+      ← D .le642 .ensures,
+      ← R .read64 .ensures,
+      P .put64 .ensures,
+      W .wrapping-add-u64 .ensures,
+      put-mod,
+      B .bare-word .ensures,
+      S .source-tag .ensures,
+    )
+
+pub write-word-spec : {M : Type 1} → statement M
+write-word-spec =
+    tie.close
+    (tie.spec (search needs) (search needs) (search needs) (search needs) (search needs) (search needs) (search needs) (search needs)
+    (search needs) (search needs) (search needs) returns)
