@@ -2,9 +2,10 @@
 ghost use mathlib.Core.Path.{_≡_};
 ghost use mathlib.Core.Bool.{cond, _&&_};
 ghost use Prim.Native.Nat.{max};
-ghost use lib.ListN.{length};
+ghost use lib.ListN.{length, replicate};
 ghost use Rattle.rules.specs.Segments.{headerAt, isLoad, largestAlign};
 ghost use Rattle.rules.specs.Lending.{biasFits, memoryFits, planeFits, lendingCheck};
+ghost use Rattle.rules.specs.Memory.{put};
 ghost use Rattle.rules.specs.Image.{putLoad, imageOf};
 ghost use Rattle.rules.specs.Answers.{ofChecked};
 use rules::ADDRESS_LIMIT;
@@ -93,25 +94,38 @@ pub fn check_lending(f: &[u8], m: Module, memory: u64, plane: u64, bias: u64) ->
     })
 }
 
-// A PT_LOAD's bytes of the file land from its address onward.
-fn place_segment(f: &[u8], s: Segment, mem: &mut [u8])
-    ensures { λ _. ⌜ now (mem .exit) ≡ putLoad (now (f .entry)) s (now (mem .entry)) ⌝ }
+// The next header placed, where the bytes from end on are not written yet and count as 0; the answer is the new end.
+// A PT_LOAD's bytes of the file land from its address onward, and the gap before them is cleared.
+// Before a segment that starts below end or does not fit in the memory, all the rest is cleared.
+fn place_next(f: &[u8], s: Segment, end: usize, mem: &mut [u8]) -> usize
+    ensures { λ r. ⌜ put (now (mem .exit)) r (replicate (length (now (mem .entry))) 0) ≡
+        putLoad (now (f .entry)) s (put (now (mem .entry)) end (replicate (length (now (mem .entry))) 0)) ⌝ }
 {
     if s.kind != PT_LOAD {
-        return;
+        return end;
     }
+    let at = s.vaddr as usize;
     let bytes = reads::part_of(f, s.offset as usize, s.filesz as usize);
-    memory::put_bytes(mem, s.vaddr as usize, bytes);
+    let size = mem.len();
+    if at < end || size < at || size - at < bytes.len() {
+        memory::fill_at(mem, end, size, 0);
+        memory::put_bytes(mem, at, bytes);
+        return size;
+    }
+    memory::fill_at(mem, end, at - end, 0);
+    memory::put_bytes(mem, at, bytes);
+    at + bytes.len()
 }
 
 // Memory before relocation: each segment's bytes at its address, all other bytes 0.
 pub fn place_segments(f: &[u8], h: Headers, mem: &mut [u8])
     ensures { λ _. ⌜ now (mem .exit) ≡ imageOf (now (f .entry)) h (length (now (mem .entry))) ⌝ }
 {
-    memory::fill(mem, 0);
     let count = h.count;
+    let mut end = 0;
     for i in 0..count {
         let s = segments::header_at(f, h, i);
-        place_segment(f, s, mem);
+        end = place_next(f, s, end, mem);
     }
+    memory::fill_at(mem, end, mem.len(), 0);
 }
