@@ -60,6 +60,7 @@ fn main() {
     bench_runs::run_aligned(b"align 16384, bias 16384: ", 16384, 16384);
     bench_runs::run_long(b"1024 relocations: ", 1024);
     bench_runs::run_long(b"1025 relocations: ", 1025);
+    bench_runs::run_repeated(b"1024 relocations, the last at the first place: ");
     run_packed();
     bench_report::run_tables();
 }

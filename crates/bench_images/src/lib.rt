@@ -137,6 +137,12 @@ pub fn put_long(f: &mut [u8], memsz: u64, entries: u32, addend: u64) {
     put_relocations(f, entries, LONG_FILE, addend);
 }
 
+// The same with 1,024, the last at the place of the first.
+pub fn put_repeated(f: &mut [u8], memsz: u64, addend: u64) {
+    put_long(f, memsz, 1024, addend);
+    put_relative(f, 1023, LONG_FILE as u64, addend);
+}
+
 // The sheet's image with a packed table of one word, and the bytes of the sheet's place.
 pub fn put_packed(f: &mut [u8], memsz: u64, word: u64, loaded: u64) {
     put_image(f, SHEET_FILE, memsz);

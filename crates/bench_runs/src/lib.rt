@@ -98,3 +98,10 @@ pub fn run_long(name: &[u8], entries: u32) {
     bench_images::put_long(&mut f, LONG_MEMORY as u64, entries, 0x10c0);
     run_places(&f, name);
 }
+
+// An image with 1,024 relocations, the last at the place of the first.
+pub fn run_repeated(name: &[u8]) {
+    let mut f = [0u8; FILE];
+    bench_images::put_repeated(&mut f, LONG_MEMORY as u64, 0x10c0);
+    run_places(&f, name);
+}
