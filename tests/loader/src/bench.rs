@@ -19,23 +19,91 @@ fn put(file: &mut [u8], at: usize, words: &[u64]) {
 }
 
 /// A relocation for each 64 bytes and a global for each 256 bytes, as many as the limits allow.
+/// The places rise, as in the tables that linkers sort.
 pub fn image(size: usize) -> Call {
-    image_of(size, (size / 64).min(MOST), (size / 256).min(MOST))
+    image_with(size, &rising(size), Vec::new())
+}
+
+/// The same with the places in mixed order.
+pub fn mixed(size: usize) -> Call {
+    let mut places = rising(size);
+    Random::new(size as u64).shuffle(&mut places);
+    image_with(size, &places, Vec::new())
 }
 
 /// The same without relocations.
 pub fn bare(size: usize) -> Call {
-    image_of(size, 0, (size / 256).min(MOST))
+    image_with(size, &[], Vec::new())
+}
+
+fn rising(size: usize) -> Vec<u64> {
+    let count = (size / 64).min(MOST);
+    (0..count).map(|i| (i * (size / count) + 8) as u64).collect()
+}
+
+fn globals(size: usize) -> usize {
+    (size / 256).min(MOST)
+}
+
+/// Places in some order, so many below a limit.
+pub type Order = fn(u64, u64) -> Vec<u64>;
+
+/// Orders of places for the walk of checks 10 and 11, none of them with a repeat. The remarks are on a
+/// map with a bit for each eight bytes: it has 64 places a word, and 512 a line of 64 bytes.
+pub const ORDERS: [(&str, Order); 7] = [
+    ("mixed", |end, count| {
+        let mut all: Vec<u64> = (0..end / 8).map(|i| 8 * i).collect();
+        Random::new(end).shuffle(&mut all);
+        all.truncate(count as usize);
+        all
+    }),
+    // The same word 64 times.
+    ("rising, 8 bytes apart", |_, count| (0..count).map(|i| 8 * i).collect()),
+    ("rising over all of memory", |end, count| spread(end, count).collect()),
+    ("falling over all of memory", |end, count| spread(end, count).rev().collect()),
+    // The next word each time.
+    ("rising, 512 bytes apart", |end, count| rounds(end, count, 512)),
+    // The next line each time, in the first word of each, then in the same words again.
+    ("4 KiB apart, in rounds", |end, count| rounds(end, count, 4 << 10)),
+    // Words 4 KiB apart in turn: they share a set of the processor's cache, and the low bits by which it
+    // tells a read from a write before it.
+    ("256 KiB apart, in rounds", |end, count| rounds(end, count, 256 << 10)),
+];
+
+fn spread(end: u64, count: u64) -> impl DoubleEndedIterator<Item = u64> {
+    (0..count).map(move |i| i * (end / count) / 8 * 8)
+}
+
+/// Up to the end by a step, then again from 8 bytes further on.
+fn rounds(end: u64, count: u64, step: u64) -> Vec<u64> {
+    let each = end / step;
+    (0..count).map(|i| i % each * step + i / each * 8).collect()
+}
+
+/// A module without globals whose RELA entries have these places: RELATIVE, or half of them with a
+/// symbol as in the other images. Only examine is for it: places may lie in the tables.
+pub fn entries(size: usize, places: &[u64], symbols: bool) -> Call {
+    let mut r = Random::new(size as u64);
+    let entries = (0..).zip(places).map(|(i, &place)| {
+        let i = if symbols { i } else { 0 };
+        relocation(&mut r, i, place, |r| r.below(size as u64))
+    });
+    let relocations = entries.collect();
+    let symbols = (0..SYMBOLS).map(|i| [0x11 << 32 | 1 << 48, 64 * i as u64, 8]).collect();
+    let (packed, descriptors) = (Vec::new(), Vec::new());
+    let mut file = vec![0; size];
+    assemble(&mut file, 0, 64 + 2 * 56, &Tables { symbols, relocations, packed, descriptors });
+    call(file, 0)
 }
 
 /// The same with 1,000 packed places, one after the other in full bitmaps, in place of RELA entries.
 pub fn packed(size: usize) -> Call {
-    let globals = (size / 256).min(MOST);
+    let globals = globals(size);
     let mut r = Random::new(size as u64);
     let first = size / 2;
     let loaded: Vec<u64> =
         (0..1_000).map(|_| (r.index(globals) * (size / globals)) as u64 + r.below(97)).collect();
-    let mut call = image_with(size, 0, globals, dense(first as u64, loaded.len()));
+    let mut call = image_with(size, &[], dense(first as u64, loaded.len()));
     put(&mut call.file, first, &loaded);
     call
 }
@@ -44,7 +112,7 @@ pub fn packed(size: usize) -> Call {
 pub fn empty_bitmaps(size: usize, count: usize) -> Call {
     let first = size / 2;
     let words = [vec![first as u64], vec![1; count]].concat();
-    let mut call = image_with(size, 0, (size / 256).min(MOST), words);
+    let mut call = image_with(size, &[], words);
     put(&mut call.file, first, &[0]);
     call
 }
@@ -64,15 +132,12 @@ pub(crate) fn dense(first: u64, places: usize) -> Vec<u64> {
     words
 }
 
-fn image_of(size: usize, relocations: usize, globals: usize) -> Call {
-    image_with(size, relocations, globals, Vec::new())
-}
-
-/// One writable PT_LOAD over the whole file, with relocations and globals spread over all of it.
-fn image_with(size: usize, relocations: usize, globals: usize, packed: Vec<u64>) -> Call {
+/// One writable PT_LOAD over the whole file, with globals spread over all of it.
+fn image_with(size: usize, places: &[u64], packed: Vec<u64>) -> Call {
     let mut r = Random::new(size as u64);
     let mut file = r.bytes(size);
-    let (place_step, global_step) = (size / relocations.max(1), size / globals);
+    let globals = globals(size);
+    let global_step = size / globals;
 
     let mut descriptors = Vec::new();
     for i in 0..globals {
@@ -80,28 +145,37 @@ fn image_with(size: usize, relocations: usize, globals: usize, packed: Vec<u64>)
         descriptors.extend(uleb((distance as u64) << 3 | 6, 1));
     }
     // Words in places first: tables may lie over them.
-    for i in 0..relocations {
-        put(&mut file, i * place_step + 8, &[[0, 0u64.wrapping_sub(16)][i % 2]]);
+    for (i, &place) in places.iter().enumerate() {
+        put(&mut file, place as usize, &[[0, 0u64.wrapping_sub(16)][i % 2]]);
     }
     let symbols = (0..SYMBOLS).map(|_| {
         let value = (r.index(globals) * global_step) as u64 + r.below(96);
         [0x11 << 32 | 1 << 48, value, 8]
     });
     let symbols = symbols.collect();
-    let relocations = (0..relocations).map(|i| {
-        let place = (i * place_step + 8) as u64;
-        let target = (r.index(globals) * global_step) as u64 + r.below(97);
-        let symbol = r.from(1, SYMBOLS as u64 - 1) << 32;
-        let (info, addend) = match i % 4 {
-            0 | 2 => (1027, target),
-            1 => (257 | symbol, r.below(16)),
-            _ => (1025 | symbol, 0),
-        };
-        [place, info, addend]
+    let relocations = places.iter().enumerate().map(|(i, &place)| {
+        relocation(&mut r, i, place, |r| (r.index(globals) * global_step) as u64 + r.below(97))
     });
     let relocations = relocations.collect();
     assemble(&mut file, 0, 64 + 2 * 56, &Tables { symbols, relocations, packed, descriptors });
     call(file, globals)
+}
+
+/// Of four entries two are RELATIVE, one is ABS64 and one is GLOB_DAT.
+fn relocation(
+    r: &mut Random,
+    index: usize,
+    place: u64,
+    target: impl Fn(&mut Random) -> u64,
+) -> [u64; 3] {
+    let target = target(r);
+    let symbol = r.from(1, SYMBOLS as u64 - 1) << 32;
+    let (info, addend) = match index % 4 {
+        0 | 2 => (1027, target),
+        1 => (257 | symbol, r.below(16)),
+        _ => (1025 | symbol, 0),
+    };
+    [place, info, addend]
 }
 
 /// The tables that a module is read by.
@@ -244,6 +318,23 @@ pub fn examines(call: &Call, loaders: [&dyn Loader; 2], rounds: usize) -> [Times
         assert_eq!(answer, call.choices.len() as u64 * 256);
     }
     taken.map(times)
+}
+
+/// The times of examine of each file by each loader, all in turn; by file, then by loader.
+pub fn walks(calls: &[Call], loaders: &[&dyn Loader], rounds: usize) -> Vec<Vec<Times>> {
+    let mut taken = vec![vec![Vec::new(); loaders.len()]; calls.len()];
+    for round in 0..rounds {
+        for (call, taken) in calls.iter().zip(&mut taken) {
+            for i in 0..loaders.len() {
+                let which = (round + i) % loaders.len();
+                let start = Instant::now();
+                let answer = loaders[which].examine(&call.file);
+                taken[which].push(start.elapsed());
+                assert_eq!(answer, call.choices.len() as u64 * 256);
+            }
+        }
+    }
+    taken.into_iter().map(|taken| taken.into_iter().map(times).collect()).collect()
 }
 
 /// Table writes by two loaders in turn, each into a cleared buffer.

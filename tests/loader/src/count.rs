@@ -33,7 +33,12 @@ struct Shape {
     globals: usize,
     /// RELATIVE, or ABS64 with a symbol.
     symbols: bool,
+    /// A power of two, or one or none.
     relocations: usize,
+    /// Their places stand in mixed order, or they rise.
+    mixed: bool,
+    /// Entries of kind 0 behind them.
+    skipped: usize,
     /// Packed places, one after the other in bitmaps, and empty bitmaps behind them.
     packed: usize,
     bitmaps: usize,
@@ -45,6 +50,8 @@ const EMPTY: Shape = Shape {
     globals: 0,
     symbols: false,
     relocations: 0,
+    mixed: false,
+    skipped: 0,
     packed: 0,
     bitmaps: 0,
 };
@@ -71,9 +78,12 @@ fn image(shape: Shape) -> Call {
         let symbol = (1 + i % (SYMBOLS - 1)) as u64;
         let (info, addend) =
             if shape.symbols { (257 | symbol << 32, 8) } else { (1027, target(i % MANY)) };
-        [(PLACES + 16 * i) as u64, info, addend]
+        // A factor that is odd gives each place of a power of two once.
+        let place = if shape.mixed { i * 333 % shape.relocations } else { i };
+        [(PLACES + 16 * place) as u64, info, addend]
     });
-    let relocations = relocations.collect();
+    let skipped = std::iter::repeat_n([PLACES as u64, 0, 0], shape.skipped);
+    let relocations = relocations.chain(skipped).collect();
     for i in 0..shape.packed {
         file[PLACES + 8 * i..][..8].copy_from_slice(&target(i % MANY).to_le_bytes());
     }
@@ -159,18 +169,25 @@ fn rows() -> Vec<Row> {
     row(name, MANY - FEW, more(WriteExact, small, large));
 
     // The globals that the relocations point into are there whatever the number of relocations.
-    let tables = |symbols, from, to| {
-        [from, to].map(|relocations| Shape { globals: MANY, symbols, relocations, ..EMPTY })
+    let tables = |symbols, mixed, from, to| {
+        [from, to].map(|relocations| Shape { globals: MANY, symbols, relocations, mixed, ..EMPTY })
     };
     for (name, symbols) in [("a RELATIVE relocation", false), ("an ABS64 with a symbol", true)] {
+        let [small, large] = tables(symbols, false, 512, 1_024);
+        row(&format!("{name}, places rising: examine"), 512, more(Examine, small, large));
         for (from, to) in [(16, 32), (512, 1_024)] {
-            let [small, large] = tables(symbols, from, to);
-            let name = format!("{name}, tables of {from} and {to}: examine");
+            let [small, large] = tables(symbols, true, from, to);
+            let name = format!("{name}, places mixed, tables of {from} and {to}: examine");
             row(&name, to - from, more(Examine, small, large));
         }
-        let [small, large] = tables(symbols, 512, 1_024);
         row(&format!("{name}: the load beyond examine"), 512, beyond(small, large));
     }
+    let [small, large] = [512, 1_024].map(|skipped| Shape { globals: MANY, skipped, ..EMPTY });
+    row("a skipped relocation: examine", 512, more(Examine, small, large));
+    row("a skipped relocation: the load beyond examine", 512, beyond(small, large));
+    // What is done once where there is a relocation.
+    let [none, one] = tables(false, false, 0, 1);
+    row("the first RELATIVE relocation: examine", 1, more(Examine, none, one));
 
     let packed = |from, to| [from, to].map(|packed| Shape { globals: MANY, packed, ..EMPTY });
     for (from, to) in [(16, 32), (512, 1_024)] {
@@ -190,9 +207,9 @@ fn rows() -> Vec<Row> {
     };
     let [small, large] = globals(Form::Bytes(1));
     row("a PT_LOAD passed over, a global's lookup", PASSED * (MANY - FEW), passing(small, large));
-    let [small, large] = tables(false, 512, 1_024);
+    let [small, large] = tables(false, true, 512, 1_024);
     let places = passing(small, large);
-    let [small, large] = tables(true, 512, 1_024);
+    let [small, large] = tables(true, true, 512, 1_024);
     let both = passing(small, large);
     row("a PT_LOAD passed over, a symbol's lookup", PASSED * 512, less(both, places.clone()));
     row("a PT_LOAD passed over, a place's lookup", PASSED * 512, places);

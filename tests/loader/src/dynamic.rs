@@ -70,7 +70,7 @@ fn good<'a, R: Rules>(header: &Header, file: &'a [u8], segments: &Segments) -> O
     if !size.is_multiple_of(16) || !(16..=R::DYNAMIC_BYTES).contains(&size) {
         return None;
     }
-    let mut entries = segments.backed::<R>(file, header.address.into(), size)?;
+    let mut entries = segments.backed::<R>(file, header.address, size)?;
     if R::DYNAMIC_AT_OFFSET {
         entries = file.get(header.offset as usize..)?.get(..size as usize)?;
     }
@@ -141,7 +141,7 @@ fn table<'a, R: Rules>(
 ) -> Option<&'a [u8]> {
     match (address, size) {
         (Some(_), Some(0)) if empty_anywhere => Some(&[]),
-        (Some(address), Some(size)) => segments.backed::<R>(file, address.into(), size),
+        (Some(address), Some(size)) => segments.backed::<R>(file, address, size),
         _ => Some(&[]),
     }
 }

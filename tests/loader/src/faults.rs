@@ -2,7 +2,7 @@
 //! each of them from the right one.
 
 use crate::answers::{Loader, Under};
-use crate::headers::{Segment, PT_DYNAMIC, PT_LOAD};
+use crate::headers::{Lookup, Segment, Segments, PT_DYNAMIC, PT_LOAD};
 use crate::relocations::ENTRY;
 use crate::rules::Rules;
 use crate::{load_untagged_by, Refusal, Untagged, ADDRESS_END, PAGE};
@@ -71,52 +71,50 @@ macro_rules! untagged_faults {
 faults! {
     FAULTS:
     ForgetsPlace "the tag source forgets *P" {
-        fn relative_source(bias: u64, addend: i64, _: u64) -> Option<u128> {
-            Some(bias.wrapping_add_signed(addend).into())
+        fn relative_source(bias: u64, addend: i64, _: u64) -> Option<u64> {
+            Some(bias.wrapping_add_signed(addend))
         }
     }
     UnsignedPlace "*P unsigned with a range check" {
-        fn relative_source(bias: u64, addend: i64, at_place: u64) -> Option<u128> {
-            u128::try_from(i128::from(bias) + i128::from(addend) + i128::from(at_place)).ok()
+        fn relative_source(bias: u64, addend: i64, at_place: u64) -> Option<u64> {
+            u64::try_from(i128::from(bias) + i128::from(addend) + i128::from(at_place)).ok()
         }
     }
     SecondIsSize "the second number is the size" {
-        fn second_size(second: u64) -> u128 {
-            second.into()
+        fn second_size(second: u64) -> u64 {
+            second
         }
     }
     WeakGranuleZero "weak undefined takes granule 0's tag" {
-        fn weak_source(_: u64, _: u64) -> Option<u128> {
+        fn weak_source(_: u64, _: u64) -> Option<u64> {
             Some(0)
         }
     }
     WeakAsDefined "weak undefined takes its value's tag" {
-        fn weak_source(bias: u64, value: u64) -> Option<u128> {
-            Some(u128::from(bias) + u128::from(value))
+        fn weak_source(bias: u64, value: u64) -> Option<u64> {
+            bias.checked_add(value)
         }
     }
     WeakBiased "weak undefined gets the bias" {
-        fn weak_address(bias: u64, addend: i64) -> i128 {
-            i128::from(bias) + i128::from(addend)
+        fn weak_address(bias: u64, addend: i64) -> Option<u64> {
+            Self::address(bias, 0, addend)
         }
     }
     AddressAtLimit "13 with at most 2^48" {
-        fn address_fits(address: i128) -> bool {
-            (0..=i128::from(ADDRESS_END)).contains(&address)
+        fn address_fits(address: Option<u64>) -> bool {
+            address.is_some_and(|address| address <= ADDRESS_END)
         }
     }
     AddressBelowZero "13 on wrapped addresses" {
-        fn address_fits(address: i128) -> bool {
-            (address as u64) < ADDRESS_END
+        fn address(bias: u64, value: u64, addend: i64) -> Option<u64> {
+            Some(bias.wrapping_add(value).wrapping_add_signed(addend))
         }
     }
     ComparesSkipped "the repeat test compares skipped entries" {
-        fn repeats(_: u32, place_before: u64, place: u64) -> bool {
-            place_before == place
-        }
+        const MARKS_SKIPPED: bool = true;
     }
     NoRepeats "no repeat test" {
-        fn repeats(_: u32, _: u64, _: u64) -> bool {
+        fn repeats(_: bool) -> bool {
             false
         }
     }
@@ -133,8 +131,8 @@ faults! {
         const TAGS_BEFORE_CHOICES: bool = true;
     }
     SourceWithAddend "ABS64's tag source with the addend" {
-        fn symbol_source(bias: u64, value: u64, addend: i64) -> Option<u128> {
-            u128::try_from(i128::from(bias) + i128::from(value) + i128::from(addend)).ok()
+        fn symbol_source(bias: u64, value: u64, addend: i64) -> Option<u64> {
+            Self::address(bias, value, addend)
         }
     }
     FileAtLimit "a file below 1,048,576 bytes only" {
@@ -148,8 +146,8 @@ faults! {
         }
     }
     WrappedSums "sums wrap at 2^64" {
-        fn sum(a: u64, b: u64) -> u128 {
-            a.wrapping_add(b).into()
+        fn sum(a: u64, b: u64) -> u64 {
+            a.wrapping_add(b)
         }
     }
     LoadsOverlap "PT_LOADs may overlap" {
@@ -174,7 +172,7 @@ faults! {
     }
     EmptyFree "an empty file part may have any offset" {
         fn in_file(offset: u64, file_size: u64, length: u64) -> bool {
-            file_size == 0 || Self::sum(offset, file_size) <= u128::from(length)
+            file_size == 0 || Self::sum(offset, file_size) <= length
         }
     }
     MemoryBacks "the memory part backs tables" {
@@ -251,19 +249,19 @@ faults! {
         const PADDED: bool = false;
     }
     SecondWraps "the size wraps at 2^64" {
-        fn second_size(second: u64) -> u128 {
-            second.wrapping_add(1).into()
+        fn second_size(second: u64) -> u64 {
+            second.wrapping_add(1)
         }
     }
     DistanceWraps "the distance wraps at 2^64" {
-        fn distance(granules: u64) -> u128 {
-            granules.wrapping_mul(16).into()
+        fn distance(granules: u64) -> u64 {
+            granules.wrapping_mul(16) / 16
         }
     }
     GlobalOverLoads "a global may lie over two PT_LOADs" {
-        fn holds(segments: &[Segment], start: u64, end: u64) -> bool {
+        fn holds(segments: &mut Lookup, start: u64, end: u64) -> bool {
             let mut at = start;
-            for s in segments {
+            for s in segments.all {
                 if s.address <= at && at < s.end() {
                     at = s.end();
                 }
@@ -272,8 +270,8 @@ faults! {
         }
     }
     GlobalStart "only a global's start is tested" {
-        fn holds(segments: &[Segment], start: u64, _: u64) -> bool {
-            segments.iter().any(|s| s.address <= start && start < s.end())
+        fn holds(segments: &mut Lookup, start: u64, _: u64) -> bool {
+            segments.find(|s| s.address <= start && start < s.end()).is_some()
         }
     }
     RangesLast "9 after all of 8" {
@@ -306,7 +304,7 @@ faults! {
     }
     ReadOnlyPlace "places in read-only segments" {
         fn place_in(segment: &Segment, place: u64) -> bool {
-            segment.address <= place && u128::from(place) + 8 <= segment.end().into()
+            segment.address <= place && Self::sum(place, 8) <= segment.end()
         }
     }
     PlaceStart "only a place's first byte is tested" {
@@ -317,7 +315,7 @@ faults! {
     PlaceInFile "a place must be in the file part" {
         fn place_in(segment: &Segment, place: u64) -> bool {
             let end = segment.address + segment.file_size;
-            segment.writable && segment.address <= place && u128::from(place) + 8 <= end.into()
+            segment.writable && segment.address <= place && Self::sum(place, 8) <= end
         }
     }
     MemoryOver "memory must go past the last end" {
@@ -412,7 +410,7 @@ faults! {
     }
     RunBelow "run-time addresses end below 2^48" {
         fn run_fits(bias: u64, length: u64) -> bool {
-            Self::sum(bias, length) < ADDRESS_END.into()
+            Self::sum(bias, length) < ADDRESS_END
         }
     }
     RunFree "only the bias is below 2^48" {
@@ -565,48 +563,96 @@ faults! {
     }
     PackedReadOnly "packed places in read-only segments" {
         fn packed_in(segment: &Segment, place: u64) -> bool {
-            segment.address <= place && u128::from(place) + 8 <= segment.end().into()
+            segment.address <= place && Self::sum(place, 8) <= segment.end()
         }
     }
     PackedInFile "a packed place must be in the file part" {
         fn packed_in(segment: &Segment, place: u64) -> bool {
             let end = segment.address + segment.file_size;
-            segment.writable && segment.address <= place && u128::from(place) + 8 <= end.into()
+            segment.writable && segment.address <= place && Self::sum(place, 8) <= end
         }
     }
     RepeatsEntry "a packed place may be a RELA entry's" {
-        fn repeats_entry(_: u32, _: u64, _: u64) -> bool {
-            false
-        }
+        const FORGETS_ENTRIES: bool = true;
     }
     RepeatsSkipped "a packed place may not be a skipped entry's" {
-        fn repeats_entry(_: u32, place_before: u64, place: u64) -> bool {
-            place_before == place
-        }
+        const MARKS_SKIPPED_LATE: bool = true;
     }
     RepeatsPacked "packed places may be repeated" {
-        fn repeats_packed(_: u64, _: u64) -> bool {
-            false
+        const MARKS_PACKED: bool = false;
+    }
+    MarkNextWord "a place is marked in the next word of the map" {
+        fn marked_at(place: u64) -> u64 {
+            place / 8 + 64
+        }
+    }
+    LookNextPlace "the place after is looked for" {
+        fn looked_at(place: u64) -> u64 {
+            place / 8 + 1
+        }
+    }
+    LookPlaceBefore "the place before is looked for" {
+        fn looked_at(place: u64) -> u64 {
+            (place / 8).saturating_sub(1)
+        }
+    }
+    LookWordBefore "a place is looked for in the word of the map before" {
+        fn looked_at(place: u64) -> u64 {
+            (place / 8).saturating_sub(64)
+        }
+    }
+    MapOfSixteens "a mark for each 16 bytes" {
+        fn looked_at(place: u64) -> u64 {
+            place / 16
+        }
+        fn marked_at(place: u64) -> u64 {
+            place / 16
+        }
+    }
+    MapWraps "places 64 KiB apart share a mark" {
+        fn looked_at(place: u64) -> u64 {
+            place / 8 % 8_192
+        }
+        fn marked_at(place: u64) -> u64 {
+            place / 8 % 8_192
+        }
+    }
+    MapHalfWords "places 256 bytes apart in a word of the map share a mark" {
+        fn looked_at(place: u64) -> u64 {
+            place / 512 * 64 + place / 8 % 32
+        }
+        fn marked_at(place: u64) -> u64 {
+            place / 512 * 64 + place / 8 % 32
+        }
+    }
+    MarkAlone "a mark takes away the others of its word" {
+        fn marked(_: u64, mask: u64) -> u64 {
+            mask
+        }
+    }
+    MapOfFirst "the map ends with the first PT_LOAD" {
+        fn map_end(segments: &Segments) -> u64 {
+            segments.all().first().map_or(0, Segment::end)
         }
     }
     PlaceBare "11 at the bare index of a packed word" {
-        fn place_at(_: &[u8], index: usize) -> u64 {
+        fn place_at(_: &[[u8; ENTRY]], index: usize) -> u64 {
             index as u64
         }
     }
     PlaceSkips "11 counts entries not skipped before a packed word" {
-        fn place_at(relocations: &[u8], index: usize) -> u64 {
-            (not_skipped(relocations) + index) as u64
+        fn place_at(relocations: &[[u8; ENTRY]], index: usize) -> u64 {
+            (not_skipped(relocations.as_flattened()) + index) as u64
         }
     }
     AddressBare "13 at the bare index of a packed word" {
-        fn address_at(_: &[u8], index: usize) -> u64 {
+        fn address_at(_: &[[u8; ENTRY]], index: usize) -> u64 {
             index as u64
         }
     }
     AddressSkips "13 counts entries not skipped before a packed word" {
-        fn address_at(relocations: &[u8], index: usize) -> u64 {
-            (not_skipped(relocations) + index) as u64
+        fn address_at(relocations: &[[u8; ENTRY]], index: usize) -> u64 {
+            (not_skipped(relocations.as_flattened()) + index) as u64
         }
     }
     PackedFirst "packed words before RELA entries" {
@@ -623,27 +669,27 @@ faults! {
         }
     }
     LoadedSigned "loaded bytes read signed" {
-        fn packed_address(bias: u64, loaded: u64) -> i128 {
-            i128::from(bias) + i128::from(loaded as i64)
+        fn packed_address(bias: u64, loaded: u64) -> Option<u64> {
+            Self::address(bias, 0, loaded as i64)
         }
     }
     LoadedBare "a packed address without the bias" {
-        fn packed_address(_: u64, loaded: u64) -> i128 {
-            loaded.into()
+        fn packed_address(_: u64, loaded: u64) -> Option<u64> {
+            Some(loaded)
         }
     }
     PackedBareSource "a packed tag source without the bias" {
-        fn packed_source(_: u64, loaded: u64) -> Option<u128> {
-            Some(loaded.into())
+        fn packed_source(_: u64, loaded: u64) -> Option<u64> {
+            Some(loaded)
         }
     }
     PackedRelative "a packed tag source by RELATIVE's rule" {
-        fn packed_source(bias: u64, loaded: u64) -> Option<u128> {
-            Some(bias.wrapping_add(loaded).wrapping_add(loaded).into())
+        fn packed_source(bias: u64, loaded: u64) -> Option<u64> {
+            Some(bias.wrapping_add(loaded).wrapping_add(loaded))
         }
     }
     PackedUntagged "packed words have tag 0" {
-        fn packed_source(_: u64, _: u64) -> Option<u128> {
+        fn packed_source(_: u64, _: u64) -> Option<u64> {
             None
         }
     }
@@ -665,8 +711,8 @@ untagged_faults! {
         const UNTAGGED_PACKED_LATE: bool = true;
     }
     UntaggedSigned "the plain loader reads loaded bytes signed" {
-        fn packed_address(bias: u64, loaded: u64) -> i128 {
-            i128::from(bias) + i128::from(loaded as i64)
+        fn packed_address(bias: u64, loaded: u64) -> Option<u64> {
+            Self::address(bias, 0, loaded as i64)
         }
     }
 }

@@ -27,7 +27,7 @@ pub struct Header {
 
 impl Header {
     #[inline]
-    fn read(bytes: &[u8]) -> Header {
+    fn read(bytes: &[u8; HEADER_BYTES]) -> Header {
         Header {
             kind: u32_at(bytes, 0),
             flags: u32_at(bytes, 4),
@@ -59,6 +59,16 @@ impl Segment {
     pub fn contents<'a>(&self, file: &'a [u8]) -> &'a [u8] {
         &file[self.offset as usize..][..self.file_size as usize]
     }
+
+    /// The eight bytes at a place of the memory part as they are loaded: 0 past the file part.
+    pub fn loaded<R: Rules>(&self, file: &[u8], place: u64) -> u64 {
+        let contents = &file[self.offset as usize..][..R::loaded_size(self, file.len())];
+        let rest = contents.get((place - self.address) as usize..).unwrap_or(&[]);
+        match rest.first_chunk() {
+            Some(bytes) => u64::from_le_bytes(*bytes),
+            None => rest.iter().rev().fold(0, |word, &byte| word << 8 | u64::from(byte)),
+        }
+    }
 }
 
 /// The PT_LOADs in table order.
@@ -79,40 +89,71 @@ impl Segments {
         self.all().last().map_or(0, Segment::end)
     }
 
-    /// Puts each segment's bytes from its own address onward.
-    pub fn place(&self, file: &[u8], memory: &mut [u8]) {
-        for segment in self.all() {
-            let bytes = segment.contents(file);
-            memory[segment.address as usize..][..bytes.len()].copy_from_slice(bytes);
-        }
+    /// For lookups one after the other.
+    #[inline]
+    pub fn lookup(&self) -> Lookup<'_> {
+        Lookup { all: self.all(), last: &self.list[0] }
     }
 
-    /// The eight bytes at a place of one memory part as they are loaded: 0 past the file part.
-    pub fn loaded<R: Rules>(&self, file: &[u8], place: u64) -> u64 {
-        let holds = |s: &&Segment| s.address <= place && place < s.end();
-        let Some(segment) = self.all().iter().find(holds) else { return 0 };
-        let contents = &file[segment.offset as usize..][..R::loaded_size(segment, file.len())];
-        let rest = contents.get((place - segment.address) as usize..).unwrap_or(&[]);
-        match rest.first_chunk() {
-            Some(bytes) => u64::from_le_bytes(*bytes),
-            None => rest.iter().rev().fold(0, |word, &byte| word << 8 | u64::from(byte)),
+    /// Puts each segment's bytes from its own address onward, and clears what lies between.
+    pub fn place<R: Rules>(&self, file: &[u8], memory: &mut [u8]) {
+        let mut end = 0;
+        for segment in self.all() {
+            let (start, bytes) = (segment.address as usize, segment.contents(file));
+            clear::<R>(memory, end, start);
+            memory[start..][..bytes.len()].copy_from_slice(bytes);
+            end = start + bytes.len();
         }
+        clear::<R>(memory, end, memory.len());
+    }
+
+    /// The file's bytes from an address to the end of the file part that it is in.
+    pub fn backed_from<'a, R: Rules>(&self, file: &'a [u8], address: u64) -> Option<&'a [u8]> {
+        let size = |s: &Segment| R::backing_end(self.all(), s) - s.address;
+        let holds = |s: &&Segment| address.checked_sub(s.address).is_some_and(|at| at < size(s));
+        let segment = self.all().iter().find(holds)?;
+        let part = file.get(segment.offset as usize..)?;
+        part[..part.len().min(size(segment) as usize)].get((address - segment.address) as usize..)
     }
 
     /// The file's bytes for a range of addresses that is wholly inside one file part.
     pub fn backed<'a, R: Rules>(
         &self,
         file: &'a [u8],
-        address: u128,
+        address: u64,
         size: u64,
     ) -> Option<&'a [u8]> {
-        let end = address + u128::from(size);
-        let within = |s: &&Segment| {
-            u128::from(s.address) <= address && end <= R::backing_end(self.all(), s).into()
-        };
-        let segment = self.all().iter().find(within)?;
-        let at = segment.offset as usize + (address as u64 - segment.address) as usize;
-        file.get(at..at + size as usize)
+        self.backed_from::<R>(file, address)?.get(..usize::try_from(size).ok()?)
+    }
+}
+
+fn clear<R: Rules>(memory: &mut [u8], start: usize, end: usize) {
+    if let Some(gap) = memory.get_mut(start..end).filter(|_| R::CLEARS_MEMORY) {
+        gap.fill(0);
+    }
+}
+
+/// The PT_LOADs, and the one found last, which is tried first.
+pub struct Lookup<'s> {
+    pub all: &'s [Segment],
+    last: &'s Segment,
+}
+
+impl<'s> Lookup<'s> {
+    /// The first of the PT_LOADs, of which no two overlap, that holds what is asked for.
+    #[inline]
+    pub fn find(&mut self, holds: impl Fn(&Segment) -> bool) -> Option<&'s Segment> {
+        if holds(self.last) {
+            return Some(self.last);
+        }
+        self.search(holds)
+    }
+
+    #[cold]
+    #[inline(never)]
+    fn search(&mut self, holds: impl Fn(&Segment) -> bool) -> Option<&'s Segment> {
+        self.last = self.all.iter().find(|segment| holds(segment))?;
+        Some(self.last)
     }
 }
 
@@ -133,7 +174,7 @@ pub fn header_table<R: Rules>(file: &[u8]) -> Result<&[u8], Refusal> {
         && u32_at(file, 20) == 1
         && usize::from(u16_at(file, 54)) == HEADER_BYTES
         && (1..=MOST_HEADERS).contains(&count)
-        && R::sum(start, bytes as u64) <= length.into();
+        && R::sum(start, bytes as u64) <= length;
     if !good {
         return Err(refusal(3, 0));
     }
@@ -141,12 +182,12 @@ pub fn header_table<R: Rules>(file: &[u8]) -> Result<&[u8], Refusal> {
 }
 
 pub fn headers(table: &[u8]) -> impl Iterator<Item = (u64, Header)> + '_ {
-    (0..).zip(table.chunks_exact(HEADER_BYTES).map(Header::read))
+    (0..).zip(table.as_chunks().0.iter().map(Header::read))
 }
 
 /// The aligns that check 12 asks of the bias, in table order.
 pub fn aligns<R: Rules>(table: &[u8]) -> impl DoubleEndedIterator<Item = u64> + '_ {
-    let all = table.chunks_exact(HEADER_BYTES).map(Header::read);
+    let all = table.as_chunks().0.iter().map(Header::read);
     all.filter(|header| R::align_counts(header.kind)).map(|header| header.align)
 }
 
@@ -154,7 +195,7 @@ fn good_load<R: Rules>(header: &Header, end_before: u64, length: u64) -> bool {
     header.memory_size != 0
         && header.file_size <= header.memory_size
         && R::in_file(header.offset, header.file_size, length)
-        && R::sum(header.address, header.memory_size) <= LARGEST.into()
+        && R::sum(header.address, header.memory_size) <= LARGEST
         && R::follows(header.address, end_before)
         && R::aligned(header.align, header.offset, header.address)
 }

@@ -1,10 +1,9 @@
 //! The two calls: a file read through checks 1 to 11 and 15, then 12 to 14, then the writes.
 
-use crate::bytes::u64_at;
 use crate::dynamic::{dynamic, Dynamic};
 use crate::headers::{aligns, header_table, segments, Segments};
 use crate::packed::Places;
-use crate::relocations::{address, source, target_of, Tables, Target, ENTRY};
+use crate::relocations::{address, source, target_of, Tables, Walked};
 use crate::rules::Rules;
 use crate::{descriptors, packed, refusal, Facts, Refusal, GRANULE, LARGEST};
 
@@ -15,11 +14,12 @@ struct Image<'a> {
     segments: Segments,
     dynamic: Dynamic<'a>,
     globals: u64,
-    words: u64,
+    walked: Walked,
 }
 
 impl<'a> Image<'a> {
-    fn read<R: Rules>(file: &'a [u8]) -> Result<Image<'a>, Refusal> {
+    /// Given the bias, it also finds what 13 refuses.
+    fn read<R: Rules>(file: &'a [u8], bias: Option<u64>) -> Result<Image<'a>, Refusal> {
         let headers = header_table::<R>(file)?;
         let segments = segments::<R>(file, headers)?;
         let dynamic = dynamic::<R>(file, headers, &segments)?;
@@ -31,19 +31,16 @@ impl<'a> Image<'a> {
         if R::PACKED_LATE {
             check()?;
         }
-        let mut image = Image { file, headers, segments, dynamic, globals, words: 0 };
-        image.words = image.tables().check::<R>()?;
+        let mut image =
+            Image { file, headers, segments, dynamic, globals, walked: Walked::default() };
+        image.walked = image.tables::<R>().check::<R>(bias)?;
         Ok(image)
     }
 
-    fn tables(&self) -> Tables<'_> {
-        Tables {
-            file: self.file,
-            segments: &self.segments,
-            symbols: self.dynamic.symbols,
-            relocations: self.dynamic.relocations,
-            packed: self.dynamic.packed.unwrap_or_default(),
-        }
+    fn tables<R: Rules>(&self) -> Tables<'_> {
+        let Dynamic { relocations, packed, symbols, .. } = self.dynamic;
+        let packed = packed.unwrap_or_default();
+        Tables::new::<R>(self.file, &self.segments, relocations, packed, symbols)
     }
 
     fn facts(&self) -> Facts {
@@ -52,7 +49,7 @@ impl<'a> Image<'a> {
             heap: self.dynamic.heap,
             stack: self.dynamic.stack,
             globals: self.globals,
-            words: self.words,
+            words: self.walked.words,
         }
     }
 
@@ -63,6 +60,11 @@ impl<'a> Image<'a> {
         } else {
             Err(refusal(12, 0))
         }
+    }
+
+    /// Check 13.
+    fn check_addresses(&self) -> Result<(), Refusal> {
+        self.walked.far.map_or(Ok(()), |position| Err(refusal(13, position)))
     }
 
     /// Check 14.
@@ -83,14 +85,6 @@ impl<'a> Image<'a> {
         Ok(())
     }
 
-    /// Each segment's bytes from its own address onward, 0 elsewhere.
-    fn place<R: Rules>(&self, memory: &mut [u8]) {
-        if R::CLEARS_MEMORY {
-            memory.fill(0);
-        }
-        self.segments.place(self.file, memory);
-    }
-
     /// Each global's choice over its granules, 0 elsewhere.
     fn tag<R: Rules>(&self, plane: &mut [u8], choices: &[u8]) {
         if R::CLEARS_PLANE {
@@ -103,37 +97,46 @@ impl<'a> Image<'a> {
     }
 
     fn relocate<R: Rules>(&self, bias: u64, memory: &mut [u8], plane: &[u8]) {
-        let tables = self.tables();
-        for (_, entry) in tables.entries() {
-            let mut target = tables.target::<R>(&entry).unwrap_or(Target::Base);
+        let tables = self.tables::<R>();
+        for entry in tables.entries() {
+            let mut target = tables.passed_target::<R>(&entry);
             if R::SYMBOLS_FROM_MEMORY && entry.symbol != 0 {
                 let at = tables.symbol_address(entry.symbol).unwrap_or(0) as usize;
-                target = target_of::<R>(&memory[at..at + ENTRY]).unwrap_or(target);
+                let symbol = memory[at..].first_chunk().and_then(target_of::<R>);
+                target = symbol.unwrap_or(target);
             }
-            let place = entry.place as usize;
-            let source = source::<R>(target, bias, entry.addend, u64_at(memory, place));
-            let tag = match source {
-                Some(source) => tag_at(plane, source, bias),
-                None => 0,
-            };
-            let word = address::<R>(target, bias, entry.addend) as u64 | u64::from(tag) << 56;
-            memory[place..place + 8].copy_from_slice(&word.to_le_bytes());
+            let word = word_at(memory, entry.place);
+            let source = source::<R>(target, bias, entry.addend, u64::from_le_bytes(*word));
+            let address = address::<R>(target, bias, entry.addend);
+            *word = tagged(address, source, bias, plane).to_le_bytes();
         }
         let relocated;
-        let mut packed = tables.packed;
+        let mut packed = self.dynamic.packed.unwrap_or_default();
         if R::PACKED_FROM_MEMORY && !packed.is_empty() {
             relocated = memory[self.dynamic.packed_at as usize..][..packed.len()].to_vec();
             packed = &relocated;
         }
         for (_, place) in Places::<R>::new(packed) {
-            let place = place as usize;
-            let loaded = u64_at(memory, place);
-            let tag =
-                R::packed_source(bias, loaded).map_or(0, |source| tag_at(plane, source, bias));
-            let word = R::packed_address(bias, loaded) as u64 | u64::from(tag) << 56;
-            memory[place..place + 8].copy_from_slice(&word.to_le_bytes());
+            let word = word_at(memory, place);
+            let loaded = u64::from_le_bytes(*word);
+            let (address, source) =
+                (R::packed_address(bias, loaded), R::packed_source(bias, loaded));
+            *word = tagged(address, source, bias, plane).to_le_bytes();
         }
     }
+}
+
+/// The eight bytes at a place that has passed 11.
+#[inline]
+pub fn word_at(memory: &mut [u8], place: u64) -> &mut [u8; 8] {
+    memory[place as usize..].first_chunk_mut().expect("a place has eight bytes")
+}
+
+/// An address that has passed 13, with the tag of the source's granule.
+#[inline]
+fn tagged(address: Option<u64>, source: Option<u64>, bias: u64, plane: &[u8]) -> u64 {
+    let tag = source.map_or(0, |source| tag_at(plane, source, bias));
+    address.unwrap_or(0) | u64::from(tag) << 56
 }
 
 /// Check 12 of bias and memory length.
@@ -146,14 +149,15 @@ pub fn lent_fits<R: Rules>(headers: &[u8], segments: &Segments, bias: u64, memor
 }
 
 /// The tag of a source's granule, 0 outside the lent memory's run of addresses.
-fn tag_at(plane: &[u8], source: u128, bias: u64) -> u8 {
-    let offset = source.checked_sub(bias.into());
-    let granule = offset.and_then(|o| usize::try_from(o / u128::from(GRANULE)).ok());
-    granule.and_then(|g| plane.get(g)).copied().unwrap_or(0)
+#[inline]
+fn tag_at(plane: &[u8], source: u64, bias: u64) -> u8 {
+    // What lies below the bias wraps to far above the run.
+    let granule = source.wrapping_sub(bias) / GRANULE;
+    plane.get(granule as usize).copied().unwrap_or(0)
 }
 
 pub fn examine_by<R: Rules>(file: &[u8]) -> Result<Facts, Refusal> {
-    Ok(Image::read::<R>(file)?.facts())
+    Ok(Image::read::<R>(file, None)?.facts())
 }
 
 pub fn load_by<R: Rules>(
@@ -163,17 +167,17 @@ pub fn load_by<R: Rules>(
     plane: &mut [u8],
     choices: &[u8],
 ) -> Result<Facts, Refusal> {
-    let image = Image::read::<R>(file)?;
+    let image = Image::read::<R>(file, Some(bias))?;
     if R::ADDRESSES_FIRST {
-        image.tables().check_addresses::<R>(bias)?;
+        image.check_addresses()?;
     }
     image.check_fit::<R>(bias, memory.len() as u64, plane.len() as u64)?;
-    image.tables().check_addresses::<R>(bias)?;
+    image.check_addresses()?;
     if R::TAGS_BEFORE_CHOICES {
         image.tag::<R>(plane, choices);
     }
     image.check_choices::<R>(choices)?;
-    image.place::<R>(memory);
+    image.segments.place::<R>(file, memory);
     image.tag::<R>(plane, choices);
     image.relocate::<R>(bias, memory, plane);
     Ok(image.facts())

@@ -4,7 +4,7 @@ use crate::bytes::{u16_at, u32_at, u64_at};
 use crate::headers::Segments;
 use crate::packed::Places;
 use crate::rules::Rules;
-use crate::{refusal, Refusal, MOST};
+use crate::{refusal, Refusal};
 
 pub const ENTRY: usize = 24;
 const NONE: u32 = 0;
@@ -22,13 +22,18 @@ pub struct Relocation {
 
 impl Relocation {
     #[inline]
-    fn read(entry: &[u8]) -> Relocation {
+    fn read(entry: &[u8; ENTRY]) -> Relocation {
         Relocation {
             place: u64_at(entry, 0),
             kind: u32_at(entry, 8),
             symbol: u32_at(entry, 12),
             addend: u64_at(entry, 16) as i64,
         }
+    }
+
+    #[inline]
+    fn skipped(&self) -> bool {
+        self.kind == NONE
     }
 }
 
@@ -42,156 +47,259 @@ pub enum Target {
 }
 
 /// The tables that relocations are read from.
-#[derive(Clone, Copy)]
 pub struct Tables<'a> {
-    pub file: &'a [u8],
-    pub segments: &'a Segments,
-    pub symbols: Option<u64>,
-    pub relocations: &'a [u8],
-    pub packed: &'a [u8],
+    file: &'a [u8],
+    segments: &'a Segments,
+    relocations: &'a [[u8; ENTRY]],
+    packed: &'a [u8],
+    symbols: Option<u64>,
+    /// The symbols in the file part that the first one is in.
+    near: &'a [[u8; ENTRY]],
+}
+
+/// What checks 10 and 11 find out.
+#[derive(Default)]
+pub struct Walked {
+    /// The number of words relocated.
+    pub words: u64,
+    /// The position of the first that 13 refuses under the bias.
+    pub far: Option<u64>,
 }
 
 impl<'a> Tables<'a> {
+    pub fn new<R: Rules>(
+        file: &'a [u8],
+        segments: &'a Segments,
+        relocations: &'a [u8],
+        packed: &'a [u8],
+        symbols: Option<u64>,
+    ) -> Tables<'a> {
+        let near = symbols.and_then(|address| segments.backed_from::<R>(file, address));
+        let near = near.unwrap_or_default().as_chunks().0;
+        Tables { file, segments, relocations: relocations.as_chunks().0, packed, symbols, near }
+    }
+
     /// The packed places, with the indexes of their words.
     pub fn places<R: Rules>(&self) -> Places<'a, R> {
         Places::new(self.packed)
     }
 
-    /// The entries not skipped, with their indexes.
-    pub fn entries(&self) -> impl Iterator<Item = (usize, Relocation)> + 'a {
-        let all = self.relocations.chunks_exact(ENTRY).map(Relocation::read);
-        all.enumerate().filter(|(_, r)| r.kind != NONE)
+    fn all_entries(&self) -> impl Iterator<Item = Relocation> + 'a {
+        self.relocations.iter().map(Relocation::read)
+    }
+
+    /// The entries not skipped.
+    pub fn entries(&self) -> impl Iterator<Item = Relocation> + 'a {
+        self.all_entries().filter(|entry| !entry.skipped())
+    }
+
+    pub fn symbol_address(&self, symbol: u32) -> Option<u64> {
+        self.symbols?.checked_add(u64::from(symbol) * ENTRY as u64)
     }
 
     #[inline]
-    pub fn symbol_address(&self, symbol: u32) -> Option<u128> {
-        Some(u128::from(self.symbols?) + u128::from(symbol) * ENTRY as u128)
+    fn symbol<R: Rules>(&self, symbol: u32) -> Option<&'a [u8; ENTRY]> {
+        self.near.get(symbol as usize).or_else(|| self.far_symbol::<R>(symbol))
+    }
+
+    /// A symbol in another file part.
+    #[cold]
+    fn far_symbol<R: Rules>(&self, symbol: u32) -> Option<&'a [u8; ENTRY]> {
+        let address = self.symbol_address(symbol)?;
+        self.segments.backed_from::<R>(self.file, address)?.first_chunk()
     }
 
     /// Check 10; none where kind or symbol is not allowed.
+    #[inline]
     pub fn target<R: Rules>(&self, entry: &Relocation) -> Option<Target> {
         match entry.kind {
             RELATIVE => (entry.symbol == 0).then_some(Target::Base),
             ABS64 | GLOB_DAT if entry.symbol != 0 => {
-                let address = self.symbol_address(entry.symbol)?;
-                target_of::<R>(self.segments.backed::<R>(self.file, address, ENTRY as u64)?)
+                self.symbol::<R>(entry.symbol).and_then(target_of::<R>)
             }
             _ => None,
         }
     }
 
-    /// Check 11 of the entry with an index.
-    fn place_good<R: Rules>(&self, index: usize, place: u64) -> bool {
-        if !place.is_multiple_of(8) || !self.segments.all().iter().any(|s| R::place_in(s, place)) {
-            return false;
+    /// The target of an entry that has passed 10.
+    #[inline]
+    pub fn passed_target<R: Rules>(&self, entry: &Relocation) -> Target {
+        match entry.symbol {
+            0 => Target::Base,
+            symbol => self.symbol::<R>(symbol).map_or(Target::Base, named_by),
         }
-        for before in self.relocations[..index * ENTRY].chunks_exact(ENTRY) {
-            if R::repeats(u32_at(before, 8), u64_at(before, 0), place) {
-                return false;
-            }
-        }
-        true
     }
 
-    /// Check 11 of a packed place behind others.
-    fn packed_good<R: Rules>(&self, before: &[u64], place: u64) -> bool {
-        if !R::packed_aligned(place) || !self.segments.all().iter().any(|s| R::packed_in(s, place))
-        {
-            return false;
+    /// Checks 10 and 11. Given the bias, they also find what 13 refuses.
+    pub fn check<R: Rules>(&self, bias: Option<u64>) -> Result<Walked, Refusal> {
+        match bias {
+            Some(bias) => self.walk::<R, true>(bias),
+            None => self.walk::<R, false>(0),
         }
-        for entry in self.relocations.chunks_exact(ENTRY) {
-            if R::repeats_entry(u32_at(entry, 8), u64_at(entry, 0), place) {
-                return false;
-            }
-        }
-        !before.iter().any(|&before| R::repeats_packed(before, place))
     }
 
-    /// Check 11 of the packed places; their number.
-    fn check_packed<R: Rules>(&self) -> Result<u64, Refusal> {
-        if self.packed.is_empty() {
-            return Ok(0);
-        }
-        let mut before = Vec::with_capacity(MOST);
-        for (index, place) in self.places::<R>() {
-            if !self.packed_good::<R>(&before, place) {
-                return Err(refusal(11, R::place_at(self.relocations, index)));
-            }
-            before.push(place);
-        }
-        Ok(R::packed_words(before.len() as u64))
-    }
-
-    /// Checks 10 and 11; the number of words relocated.
-    pub fn check<R: Rules>(&self) -> Result<u64, Refusal> {
+    fn walk<R: Rules, const BIASED: bool>(&self, bias: u64) -> Result<Walked, Refusal> {
+        // Without relocations there is nothing to keep.
+        let any = !self.relocations.is_empty() || !self.packed.is_empty();
+        let mut met = Met::below(if any { R::map_end(self.segments) } else { 0 });
+        let mut found = Walked::default();
         if R::PACKED_FIRST {
-            self.check_packed::<R>()?;
+            self.walk_packed::<R, BIASED>(bias, &mut met, &mut found)?;
+            self.walk_entries::<R, BIASED>(bias, &mut met, &mut found)?;
+        } else {
+            self.walk_entries::<R, BIASED>(bias, &mut met, &mut found)?;
+            self.walk_packed::<R, BIASED>(bias, &mut met, &mut found)?;
         }
+        Ok(found)
+    }
+
+    fn walk_entries<R: Rules, const BIASED: bool>(
+        &self,
+        bias: u64,
+        met: &mut Met,
+        found: &mut Walked,
+    ) -> Result<(), Refusal> {
+        let mut parts = self.segments.lookup();
+        let mut place_good = |met: &mut Met, place: u64| {
+            let good = place.is_multiple_of(8)
+                && parts.find(|s| R::place_in(s, place)).is_some()
+                && !R::repeats(met.has::<R>(place));
+            if good {
+                met.put::<R>(place);
+            }
+            good
+        };
         let mut words = 0;
-        for (index, entry) in self.entries() {
-            if R::PLACE_FIRST && !self.place_good::<R>(index, entry.place) {
-                return Err(refusal(11, index as u64));
+        for (index, entry) in (0..).zip(self.all_entries()) {
+            if entry.skipped() {
+                if R::MARKS_SKIPPED {
+                    met.put_any::<R>(entry.place);
+                }
+                continue;
             }
-            if self.target::<R>(&entry).is_none() {
-                return Err(refusal(10, index as u64));
+            if R::PLACE_FIRST && !place_good(met, entry.place) {
+                return Err(refusal(11, index));
             }
-            if !self.place_good::<R>(index, entry.place) {
-                return Err(refusal(11, index as u64));
+            let target = self.target::<R>(&entry).ok_or(refusal(10, index))?;
+            if !R::PLACE_FIRST && !place_good(met, entry.place) {
+                return Err(refusal(11, index));
+            }
+            if BIASED && !R::address_fits(address::<R>(target, bias, entry.addend)) {
+                found.far.get_or_insert(index);
             }
             words += 1;
         }
-        Ok(R::words(words, (self.relocations.len() / ENTRY) as u64) + self.check_packed::<R>()?)
+        found.words += R::words(words, self.relocations.len() as u64);
+        Ok(())
     }
 
-    /// Check 13.
-    pub fn check_addresses<R: Rules>(&self, bias: u64) -> Result<(), Refusal> {
-        if R::PACKED_FIRST {
-            self.check_packed_addresses::<R>(bias)?;
+    fn walk_packed<R: Rules, const BIASED: bool>(
+        &self,
+        bias: u64,
+        met: &mut Met,
+        found: &mut Walked,
+    ) -> Result<(), Refusal> {
+        if R::FORGETS_ENTRIES {
+            met.0.fill(0);
         }
-        for (index, entry) in self.entries() {
-            let target = self.target::<R>(&entry).unwrap_or(Target::Base);
-            if !R::address_fits(address::<R>(target, bias, entry.addend)) {
-                return Err(refusal(13, index as u64));
-            }
+        if R::MARKS_SKIPPED_LATE {
+            let skipped = self.all_entries().filter(Relocation::skipped);
+            skipped.for_each(|entry| met.put_any::<R>(entry.place));
         }
-        self.check_packed_addresses::<R>(bias)
-    }
-
-    /// Check 13 of the packed places.
-    fn check_packed_addresses<R: Rules>(&self, bias: u64) -> Result<(), Refusal> {
+        let mut parts = self.segments.lookup();
+        let mut words = 0;
         for (index, place) in self.places::<R>() {
-            let loaded = self.segments.loaded::<R>(self.file, place);
-            if !R::address_fits(R::packed_address(bias, loaded)) {
-                return Err(refusal(13, R::address_at(self.relocations, index)));
+            let refused = || refusal(11, R::place_at(self.relocations, index));
+            if !R::packed_aligned(place) {
+                return Err(refused());
             }
+            let segment = parts.find(|s| R::packed_in(s, place)).ok_or_else(refused)?;
+            if met.has::<R>(place) {
+                return Err(refused());
+            }
+            if R::MARKS_PACKED {
+                met.put::<R>(place);
+            }
+            if BIASED {
+                let loaded = segment.loaded::<R>(self.file, place);
+                if !R::address_fits(R::packed_address(bias, loaded)) {
+                    found.far.get_or_insert(R::address_at(self.relocations, index));
+                }
+            }
+            words += 1;
         }
+        found.words += R::packed_words(words);
         Ok(())
     }
 }
 
-/// What a symbol entry gives, none where it is not allowed.
-pub fn target_of<R: Rules>(symbol: &[u8]) -> Option<Target> {
-    let (info, section, value) = (symbol[4], u16_at(symbol, 6), u64_at(symbol, 8));
-    if R::refused_type(info & 15) || R::refused_section(section) {
-        return None;
+/// The places met so far: a bit for each eight bytes.
+struct Met(Vec<u64>);
+
+impl Met {
+    fn below(end: u64) -> Met {
+        Met(vec![0; end.div_ceil(8 * 64) as usize])
     }
-    match section {
-        0 => R::weak(info >> 4).then_some(Target::Nothing(value)),
-        _ => Some(Target::Symbol(value)),
+
+    /// Word and mask of a bit.
+    #[inline]
+    fn at(bit: u64) -> (usize, u64) {
+        ((bit / 64) as usize, 1 << (bit % 64))
+    }
+
+    #[inline]
+    fn has<R: Rules>(&self, place: u64) -> bool {
+        let (word, mask) = Met::at(R::looked_at(place));
+        self.0[word] & mask != 0
+    }
+
+    #[inline]
+    fn put<R: Rules>(&mut self, place: u64) {
+        let (word, mask) = Met::at(R::marked_at(place));
+        self.0[word] = R::marked(self.0[word], mask);
+    }
+
+    /// The same for a place that may be anywhere.
+    fn put_any<R: Rules>(&mut self, place: u64) {
+        if place.is_multiple_of(8) && place / 512 < self.0.len() as u64 {
+            self.put::<R>(place);
+        }
     }
 }
 
-/// The address of a word, exact.
-pub fn address<R: Rules>(target: Target, bias: u64, addend: i64) -> i128 {
+/// What a symbol entry gives, none where it is not allowed.
+#[inline]
+pub fn target_of<R: Rules>(symbol: &[u8; ENTRY]) -> Option<Target> {
+    let (info, section) = (symbol[4], u16_at(symbol, 6));
+    let refused = R::refused_type(info & 15)
+        || R::refused_section(section)
+        || section == 0 && !R::weak(info >> 4);
+    (!refused).then(|| named_by(symbol))
+}
+
+/// What a symbol entry that is allowed gives.
+#[inline]
+fn named_by(symbol: &[u8; ENTRY]) -> Target {
+    let value = u64_at(symbol, 8);
+    match u16_at(symbol, 6) {
+        0 => Target::Nothing(value),
+        _ => Target::Symbol(value),
+    }
+}
+
+/// The address of a word, none below 0 or from 2^64 on.
+#[inline]
+pub fn address<R: Rules>(target: Target, bias: u64, addend: i64) -> Option<u64> {
     match target {
-        Target::Base => i128::from(bias) + i128::from(addend),
-        Target::Symbol(value) => i128::from(bias) + i128::from(value) + i128::from(addend),
+        Target::Base => R::address(bias, 0, addend),
+        Target::Symbol(value) => R::address(bias, value, addend),
         Target::Nothing(_) => R::weak_address(bias, addend),
     }
 }
 
-/// The tag source of a word; at_place is *P.
-pub fn source<R: Rules>(target: Target, bias: u64, addend: i64, at_place: u64) -> Option<u128> {
+/// The tag source of a word, none from 2^64 on; at_place is *P.
+#[inline]
+pub fn source<R: Rules>(target: Target, bias: u64, addend: i64, at_place: u64) -> Option<u64> {
     match target {
         Target::Base => R::relative_source(bias, addend, at_place),
         Target::Symbol(value) => R::symbol_source(bias, value, addend),

@@ -1,7 +1,7 @@
 //! The single rules of the loader and of the writer that the seeded faults change. The defaults are
 //! the right ones; a fault overrides one of them.
 
-use crate::headers::{Segment, PT_LOAD};
+use crate::headers::{Lookup, Segment, Segments, PT_LOAD};
 use crate::relocations::ENTRY;
 use crate::{ADDRESS_END, GRANULE, LARGEST, MOST, PAGE};
 
@@ -11,9 +11,9 @@ pub trait Rules {
         (64..=LARGEST).contains(&length)
     }
 
-    /// Sums of addresses and sizes are exact.
-    fn sum(a: u64, b: u64) -> u128 {
-        u128::from(a) + u128::from(b)
+    /// Sums of addresses and sizes are exact: one from 2^64 on is above every limit.
+    fn sum(a: u64, b: u64) -> u64 {
+        a.saturating_add(b)
     }
 
     /// 4: a PT_LOAD starts at or after the end of the one before.
@@ -28,7 +28,7 @@ pub trait Rules {
 
     /// 4: what of offset and file size must lie in the file, even when the size is 0.
     fn in_file(offset: u64, file_size: u64, length: u64) -> bool {
-        Self::sum(offset, file_size) <= u128::from(length)
+        Self::sum(offset, file_size) <= length
     }
 
     /// Where the part of a segment ends that can back a table.
@@ -130,19 +130,19 @@ pub trait Rules {
     /// A number may be padded with zero bits.
     const PADDED: bool = true;
 
-    /// The size of a global whose first number has three low bits of 0.
-    fn second_size(second: u64) -> u128 {
-        u128::from(second) + 1
+    /// The granules of a global whose first number has three low bits of 0.
+    fn second_size(second: u64) -> u64 {
+        second.saturating_add(1)
     }
 
-    /// Bytes between a global and the end of the one before.
-    fn distance(granules: u64) -> u128 {
-        u128::from(granules) * 16
+    /// Granules between a global and the end of the one before.
+    fn distance(granules: u64) -> u64 {
+        granules
     }
 
     /// 9: a global lies inside the memory part of one PT_LOAD.
-    fn holds(segments: &[Segment], start: u64, end: u64) -> bool {
-        segments.iter().any(|s| s.address <= start && end <= s.end())
+    fn holds(segments: &mut Lookup, start: u64, end: u64) -> bool {
+        segments.find(|s| s.address <= start && end <= s.end()).is_some()
     }
 
     /// 8 and 9 come from one walk.
@@ -168,13 +168,40 @@ pub trait Rules {
 
     /// 11: a place lies in one writable segment.
     fn place_in(segment: &Segment, place: u64) -> bool {
-        segment.writable && segment.address <= place && Self::sum(place, 8) <= segment.end().into()
+        segment.writable && segment.address <= place && Self::sum(place, 8) <= segment.end()
     }
 
-    /// 11: the repeat search passes over skipped entries.
-    fn repeats(kind_before: u32, place_before: u64, place: u64) -> bool {
-        kind_before != 0 && place_before == place
+    /// 11: an entry's place differs from those met before.
+    fn repeats(met: bool) -> bool {
+        met
     }
+
+    /// 11: where the places that are met end.
+    fn map_end(segments: &Segments) -> u64 {
+        segments.end()
+    }
+
+    /// 11: the bit by which a place is looked for, and the one that is set for it.
+    fn looked_at(place: u64) -> u64 {
+        place / 8
+    }
+    fn marked_at(place: u64) -> u64 {
+        place / 8
+    }
+
+    /// 11: a word of the map with a bit more.
+    fn marked(word: u64, mask: u64) -> u64 {
+        word | mask
+    }
+
+    /// 11: later entries and packed words do not meet the places of skipped entries.
+    const MARKS_SKIPPED: bool = false;
+    /// 11: nor do packed words alone.
+    const MARKS_SKIPPED_LATE: bool = false;
+    /// 11: a packed place differs from those of RELA entries.
+    const FORGETS_ENTRIES: bool = false;
+    /// 11: a packed place differs from the packed ones before.
+    const MARKS_PACKED: bool = true;
 
     /// 11: a packed place is a multiple of 8.
     fn packed_aligned(place: u64) -> bool {
@@ -186,24 +213,14 @@ pub trait Rules {
         Self::place_in(segment, place)
     }
 
-    /// 11: a packed place differs from those of RELA entries not skipped.
-    fn repeats_entry(kind: u32, place_before: u64, place: u64) -> bool {
-        kind != 0 && place_before == place
-    }
-
-    /// 11: a packed place differs from the packed ones before.
-    fn repeats_packed(place_before: u64, place: u64) -> bool {
-        place_before == place
-    }
-
     /// 11: the position of a packed word, behind all RELA entries.
-    fn place_at(relocations: &[u8], index: usize) -> u64 {
-        (relocations.len() / ENTRY + index) as u64
+    fn place_at(relocations: &[[u8; ENTRY]], index: usize) -> u64 {
+        (relocations.len() + index) as u64
     }
 
     /// 13: the same.
-    fn address_at(relocations: &[u8], index: usize) -> u64 {
-        (relocations.len() / ENTRY + index) as u64
+    fn address_at(relocations: &[[u8; ENTRY]], index: usize) -> u64 {
+        (relocations.len() + index) as u64
     }
 
     /// 11 and 13: packed words come after RELA entries.
@@ -237,15 +254,21 @@ pub trait Rules {
 
     /// 12: run-time addresses end at 2^48.
     fn run_fits(bias: u64, length: u64) -> bool {
-        Self::sum(bias, length) <= ADDRESS_END.into()
+        Self::sum(bias, length) <= ADDRESS_END
     }
 
     /// 12 comes before 13.
     const ADDRESSES_FIRST: bool = false;
 
+    /// 13: the address of a value and an addend, none below 0 or from 2^64 on. An addend brings no sum
+    /// from 2^64 on back below 2^48.
+    fn address(bias: u64, value: u64, addend: i64) -> Option<u64> {
+        bias.checked_add(value)?.checked_add_signed(addend)
+    }
+
     /// 13: addresses that a word can hold.
-    fn address_fits(address: i128) -> bool {
-        (0..i128::from(ADDRESS_END)).contains(&address)
+    fn address_fits(address: Option<u64>) -> bool {
+        address.is_some_and(|address| address < ADDRESS_END)
     }
 
     /// 14: the position of a wrong number of choices.
@@ -269,24 +292,24 @@ pub trait Rules {
     const CLEARS_MEMORY: bool = true;
     const CLEARS_PLANE: bool = true;
 
-    /// Tag source of 257 and 1025; exact.
-    fn symbol_source(bias: u64, value: u64, _addend: i64) -> Option<u128> {
-        Some(Self::sum(bias, value))
+    /// Tag source of 257 and 1025, none from 2^64 on: no memory is there.
+    fn symbol_source(bias: u64, value: u64, _addend: i64) -> Option<u64> {
+        bias.checked_add(value)
     }
 
     /// Tag source of 1027, wrapping at 2^64.
-    fn relative_source(bias: u64, addend: i64, at_place: u64) -> Option<u128> {
-        Some(bias.wrapping_add_signed(addend).wrapping_add(at_place).into())
+    fn relative_source(bias: u64, addend: i64, at_place: u64) -> Option<u64> {
+        Some(bias.wrapping_add_signed(addend).wrapping_add(at_place))
     }
 
     /// Tag source of a weak undefined symbol.
-    fn weak_source(_bias: u64, _value: u64) -> Option<u128> {
+    fn weak_source(_bias: u64, _value: u64) -> Option<u64> {
         None
     }
 
     /// Address of a weak undefined symbol's word.
-    fn weak_address(_bias: u64, addend: i64) -> i128 {
-        addend.into()
+    fn weak_address(_bias: u64, addend: i64) -> Option<u64> {
+        Self::address(0, 0, addend)
     }
 
     /// The bytes of a segment that are loaded from the file.
@@ -295,13 +318,13 @@ pub trait Rules {
     }
 
     /// Address of a packed place, from its loaded bytes, unsigned.
-    fn packed_address(bias: u64, loaded: u64) -> i128 {
-        i128::from(bias) + i128::from(loaded)
+    fn packed_address(bias: u64, loaded: u64) -> Option<u64> {
+        Self::address(bias, loaded, 0)
     }
 
     /// Tag source of a packed place: its address.
-    fn packed_source(bias: u64, loaded: u64) -> Option<u128> {
-        Some(Self::sum(bias, loaded))
+    fn packed_source(bias: u64, loaded: u64) -> Option<u64> {
+        bias.checked_add(loaded)
     }
 
     /// Symbols and packed words are read from the file.

@@ -1,10 +1,9 @@
 //! The plain loader of demand 3: it knows no tags, and writes bare addresses.
 
-use crate::bytes::u64_at;
 use crate::dynamic::untagged;
 use crate::headers::{header_table, segments};
-use crate::load::lent_fits;
-use crate::relocations::{address, Tables, Target};
+use crate::load::{lent_fits, word_at};
+use crate::relocations::{address, Tables};
 use crate::rules::Rules;
 use crate::{packed, refusal, Refusal};
 
@@ -25,40 +24,36 @@ pub fn load_untagged_by<R: Rules>(
     let headers = header_table::<R>(file)?;
     let segments = segments::<R>(file, headers)?;
     let found = untagged::<R>(file, headers, &segments)?;
-    let tables = Tables {
-        file,
-        segments: &segments,
-        symbols: found.symbols,
-        relocations: found.relocations,
-        packed: found.packed.unwrap_or_default(),
-    };
+    let packed = found.packed.unwrap_or_default();
+    let tables = Tables::new::<R>(file, &segments, found.relocations, packed, found.symbols);
     if R::UNTAGGED_PACKED_LATE {
-        tables.check::<R>()?;
+        tables.check::<R>(None)?;
     }
     if R::UNTAGGED_CHECKS_PACKED {
         packed::check::<R>(found.packed, found.relocations)?;
     }
-    tables.check::<R>()?;
+    let walked = tables.check::<R>(Some(bias))?;
     if !lent_fits::<R>(headers, &segments, bias, length) {
         return Err(refusal(12, 0));
     }
-    tables.check_addresses::<R>(bias)?;
+    if let Some(position) = walked.far {
+        return Err(refusal(13, position));
+    }
 
     let mut memory = vec![0; length as usize];
-    segments.place(file, &mut memory);
+    segments.place::<R>(file, &mut memory);
     let mut places = Vec::new();
-    for (_, entry) in tables.entries() {
-        let place = entry.place as usize;
-        let target = tables.target::<R>(&entry).unwrap_or(Target::Base);
-        let word = address::<R>(target, bias, entry.addend) as u64;
-        memory[place..place + 8].copy_from_slice(&word.to_le_bytes());
-        places.push(place);
+    for entry in tables.entries() {
+        let target = tables.passed_target::<R>(&entry);
+        let address = address::<R>(target, bias, entry.addend).unwrap_or(0);
+        *word_at(&mut memory, entry.place) = address.to_le_bytes();
+        places.push(entry.place as usize);
     }
     for (_, place) in tables.places::<R>() {
-        let place = place as usize;
-        let word = R::packed_address(bias, u64_at(&memory, place)) as u64;
-        memory[place..place + 8].copy_from_slice(&word.to_le_bytes());
-        places.push(place);
+        let word = word_at(&mut memory, place);
+        let address = R::packed_address(bias, u64::from_le_bytes(*word)).unwrap_or(0);
+        *word = address.to_le_bytes();
+        places.push(place as usize);
     }
     Ok(Untagged { memory, places })
 }

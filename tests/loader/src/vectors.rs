@@ -65,9 +65,9 @@ impl<'a> Records<'a> {
 }
 
 /// The sets of loads.
-pub const LOADS: [&str; 3] = ["load", "level-02/load", "level-03/load"];
+pub const LOADS: [&str; 4] = ["load", "level-02/load", "level-03/load", "level-04/load"];
 /// The folders of those that the untagged loader has answers for.
-pub const UNTAGGED: [&str; 2] = ["level-02", "level-03"];
+pub const UNTAGGED: [&str; 3] = ["level-02", "level-03", "level-04"];
 
 pub fn loads(set: &str) -> Vec<LoadVector> {
     let bytes = read(&format!("{set}.cases"));

@@ -15,7 +15,7 @@ fn run(program: &str, words: &[&str]) -> (Option<i32>, String) {
 fn equal_loaders_are_equal() {
     let (code, text) = run(COMPARE, &["--against", "self", "--cases", "2000"]);
     assert_eq!(code, Some(0), "{text}");
-    assert!(text.contains("3303 calls, 2400 descriptor steps, 2346 table writes"), "{text}");
+    assert!(text.contains("3501 calls, 2400 descriptor steps, 2346 table writes"), "{text}");
     assert!(text.contains("different: 0"), "{text}");
 }
 
@@ -54,7 +54,7 @@ fn the_untagged_loader_is_compared() {
         assert!(text.contains(line), "{text}");
     };
     shown("the bias by 4,096 alone", "\n  untagged: refused 12 at 0, other taken\n");
-    shown("symbols read from relocated memory", "\n  memory but for tags: 2 bytes, first at ");
+    shown("symbols read from relocated memory", "\n  memory but for tags: 6 bytes, first at ");
 }
 
 #[test]
@@ -79,6 +79,8 @@ fn wrong_words_are_told() {
 fn the_bench_images_are_taken() {
     let (code, text) = run(BENCH, &["--against", "self", "--rounds", "3"]);
     assert_eq!(code, Some(0), "{text}");
-    assert_eq!(text.matches("| load |").count(), 6, "{text}");
+    assert_eq!(text.matches("| load |").count(), 9, "{text}");
+    assert_eq!(text.matches("| best |").count(), 11, "{text}");
+    assert_eq!(text.matches("| median |").count(), 11, "{text}");
     assert_eq!(text.matches("globals").count(), 5, "{text}");
 }

@@ -5,7 +5,7 @@ use loader::{examine, load_untagged, step, vectors};
 
 #[test]
 fn loads() {
-    for (set, count) in vectors::LOADS.into_iter().zip([700, 262, 341]) {
+    for (set, count) in vectors::LOADS.into_iter().zip([700, 262, 341, 198]) {
         let vectors = vectors::loads(set);
         assert_eq!(vectors.len(), count);
         for (i, v) in vectors.iter().enumerate() {
@@ -17,7 +17,7 @@ fn loads() {
 
 #[test]
 fn untagged_loads() {
-    for (folder, count) in vectors::UNTAGGED.into_iter().zip([262, 341]) {
+    for (folder, count) in vectors::UNTAGGED.into_iter().zip([262, 341, 198]) {
         let vectors = vectors::untagged_loads(folder);
         assert_eq!(vectors.len(), count);
         for (i, v) in vectors.iter().enumerate() {

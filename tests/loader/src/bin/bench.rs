@@ -1,12 +1,14 @@
-//! Times the proved loader and writer beside the Rust ones; prints two markdown tables.
+//! Times the proved loader and writer beside the Rust ones; prints three markdown tables.
 //!
 //!     bench [--against archive] [--rounds N]
 
 use loader::answers::{Listing, Loader};
-use loader::bench::{bare, empty_bitmaps, examines, image, loads, packed, Times, SIZES};
+use loader::bench::{bare, empty_bitmaps, examines, image, loads, mixed, packed, Times, SIZES};
+use loader::bench::{entries, walks, ORDERS};
 use loader::bench::{mixed_globals, short_globals, writes};
 use loader::compare::partner;
 use std::process::ExitCode;
+use std::time::Duration;
 
 /// Best and median of both in a unit of so many nanoseconds, and their ratios.
 fn cells([proved, plain]: [Times; 2], unit: f64, places: usize) -> String {
@@ -28,6 +30,37 @@ fn row(image: &str, call: &str, times: [Times; 2]) {
 fn write_row(name: &str, list: &Listing, loaders: [&dyn Loader; 2], rounds: usize) {
     let times = writes(list, loaders, rounds);
     println!("| {name} | {} |", cells(times, list.addresses.len() as f64, 2));
+}
+
+/// The numbers of entries, each time beside none.
+const COUNTS: [u64; 3] = [256, 1_000, 1_024];
+
+/// Which of the times a row shows.
+type Shown = (&'static str, fn(&Times) -> Duration);
+const TIMES: [Shown; 2] = [("best", |times| times.best), ("median", |times| times.median)];
+
+/// What examine takes with entries beyond what it takes without: a row of best and a row of median
+/// times. A small memory has the smallest number alone.
+fn walk_rows(memory: usize, order: usize, symbols: bool, loaders: [&dyn Loader; 2], rounds: usize) {
+    let (name, places) = ORDERS[order];
+    let counts = if memory < 1 << 20 { &COUNTS[..1] } else { &COUNTS };
+    let mut calls = vec![entries(memory, &[], symbols)];
+    calls.extend(counts.iter().map(|&n| entries(memory, &places(memory as u64, n), symbols)));
+    let taken = walks(&calls, &loaders, rounds);
+    let kinds = if symbols { ", half with symbols" } else { "" };
+    for (which, time) in TIMES {
+        let mut cells = Vec::new();
+        for loader in 0..loaders.len() {
+            let micros: Vec<f64> =
+                taken.iter().map(|of| time(&of[loader]).as_nanos() as f64 / 1000.0).collect();
+            let walk = |i: usize| micros.get(i).map(|time| time - micros[0]);
+            let shown = |time: Option<f64>| time.map_or("-".to_owned(), |t| format!("{t:.2}"));
+            cells.push(shown(Some(micros[0])));
+            cells.extend((1..=COUNTS.len()).map(|i| shown(walk(i))));
+            cells.push(shown(walk(3).zip(walk(1)).map(|(long, short)| long / short)));
+        }
+        println!("| {} KiB | {name}{kinds} | {which} | {} |", memory >> 10, cells.join(" | "));
+    }
 }
 
 fn run(words: &[String]) -> Result<(), String> {
@@ -55,6 +88,9 @@ fn run(words: &[String]) -> Result<(), String> {
         row(&name, "examine", examines(&call, loaders, rounds));
     }
     let others = [
+        ("16 KiB, places mixed", mixed(16 << 10)),
+        ("256 KiB, places mixed", mixed(256 << 10)),
+        ("1024 KiB, places mixed", mixed(1 << 20)),
         ("1024 KiB, no relocations", bare(1 << 20)),
         ("256 KiB, 1,000 packed places", packed(256 << 10)),
         ("256 KiB, 10,000 empty bitmaps", empty_bitmaps(256 << 10, 10_000)),
@@ -62,6 +98,17 @@ fn run(words: &[String]) -> Result<(), String> {
     for (name, call) in others {
         row(name, "load", loads(&call, loaders, rounds));
         row(name, "examine", examines(&call, loaders, rounds));
+    }
+
+    println!("\nThe walk of 10 and 11: microseconds of examine without entries, and what so many of distinct places add to them.\n");
+    println!("| memory | places | time | first, none | 256 | 1,000 | 1,024 | 1,024 : 256 | second, none | 256 | 1,000 | 1,024 | 1,024 : 256 |");
+    println!("|---|---|---|---|---|---|---|---|---|---|---|---|---|");
+    for order in 0..ORDERS.len() {
+        walk_rows(1 << 20, order, false, loaders, rounds);
+    }
+    walk_rows(1 << 20, 0, true, loaders, rounds);
+    for order in 0..3 {
+        walk_rows(16 << 10, order, false, loaders, rounds);
     }
 
     println!("\nNanoseconds a global of write_table, in the same way.\n");

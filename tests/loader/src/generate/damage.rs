@@ -170,7 +170,7 @@ fn bitmaps(m: &mut Module, r: &mut Random, place: u64, bits: u32) -> Option<Expe
         }
         words.push(word);
     }
-    words.extend(vec![u64::MAX; r.index(3).min(most - words.len())]);
+    words.extend(vec![u64::MAX; r.index(3).min(most.saturating_sub(words.len()))]);
     too_many(m, words)
 }
 

@@ -49,6 +49,19 @@ fn both(r: &mut Random, relocations: usize, skipped: usize, packed: usize) -> (C
     (m.call(), passed.map_or(Taken, |word| Refused(15, word as u64)))
 }
 
+/// So many relocations and packed places in mixed order over a large memory.
+fn over_large_memory(r: &mut Random, relocations: usize, packed: usize) -> Module {
+    let shape = Shape {
+        loads: Some(1),
+        relocations: Some(relocations),
+        packed: Some(packed),
+        packed_words: Some(64),
+        bss: Some(900_000),
+        ..Shape::default()
+    };
+    Module::shaped(r, &shape)
+}
+
 /// A place, a row of empty bitmaps, a bitmap of one bit that names another place, and more words. Both
 /// places are past the file part, where zeros are loaded.
 fn long_row(r: &mut Random, row: usize, more: &[u64]) -> Module {
@@ -191,6 +204,18 @@ pub const SPECIALS: &[Special] = &[
         let passed = passing(m.relocations.len(), &m.packed).expect("too many places");
         assert!(passed as u64 > at);
         (m.call(), Refused(15, passed as u64))
+    }),
+    ("1,024 relocations over a large memory", |r| (over_large_memory(r, MOST, 0).call(), Taken)),
+    ("1,024 relocations over a large memory, the last repeats another", |r| {
+        let mut m = over_large_memory(r, MOST, 0);
+        m.relocations[LAST].place = m.relocations[r.index(LAST)].place;
+        (m.call(), Refused(11, LAST as u64))
+    }),
+    ("1,000 relocations over a large memory, a packed place repeats one", |r| {
+        let mut m = over_large_memory(r, 1_000, 20);
+        let words = [&m.packed[..], &[m.relocations[r.index(1_000)].place]].concat();
+        assert!(m.put_packed(words));
+        (m.call(), Refused(11, 999 + m.packed.len() as u64))
     }),
     ("1,023 descriptors", |r| (many_globals(r, LAST).call(), Taken)),
     ("1,024 descriptors", |r| (many_globals(r, MOST).call(), Taken)),
