@@ -19,7 +19,7 @@ fn put(file: &mut [u8], at: usize, words: &[u64]) {
 }
 
 /// A relocation for each 64 bytes and a global for each 256 bytes, as many as the limits allow.
-/// The places rise, as in the tables that linkers sort.
+/// The places rise.
 pub fn image(size: usize) -> Call {
     image_with(size, &rising(size), Vec::new())
 }
