@@ -1,7 +1,7 @@
 // Items in which nothing is wrong: told by few tests, without a search. What is not told here is judged by itself.
 ghost use mathlib.Core.Path.{_≡_};
 ghost use mathlib.Core.Bool.{true, false, _&&_};
-ghost use Prim.Native.Nat.{_+_, _*_, _%_, _≤_, _<_};
+ghost use Prim.Native.Nat.{_+_, _*_, _%_, _^_, _≤_, _<_};
 ghost use lib.Dec.{eqb};
 ghost use lib.IntN.{pos, _+ℤ_};
 ghost use lib.ListN.{length};
@@ -39,7 +39,7 @@ pub struct Near {
 const NO_NEAR: Near = Near { at: 0, count: 0 };
 
 // 2^61: two numbers below it have a sum below 2^62.
-const FAR: u64 = 2305843009213693952;
+pub const FAR: u64 = 2305843009213693952;
 
 // The symbols that are found by one sum.
 pub fn near_symbols(f: &[u8], m: Module) -> Near
@@ -72,24 +72,20 @@ fn fits(start: u64, size: u64, place: u64) -> bool
     reads::holds_range(start, size, place, 8)
 }
 
-// A base and a signed addend sum to an address: below 2^62 the sum modulo 2^64 tells it. Other bases are not told.
+// A base and a signed addend sum to an address: of a base below 2^62 the sum modulo 2^64 tells it.
 fn is_inside(base: u64, addend: u64) -> bool
+    requires { ⌜ base < 2 ^ 62 ⌝ }
     ensures { λ v. ⌜ (v ≡ true → outOfRange (pos base +ℤ signed addend) ≡ false) ⌝ }
 {
-    if 2 * FAR <= base {
-        return false;
-    }
     std::num::wrapping_add_u64(base, addend) < ADDRESS_LIMIT
 }
 
-// The bias, a value and a signed addend sum to an address; bias and value are below 2^61.
+// The bias, a value and a signed addend sum to an address. Values from 2^61 on are not told.
 fn is_value_inside(bias: u64, value: u64, addend: u64) -> bool
+    requires { ⌜ bias < 2 ^ 61 ⌝ }
     ensures { λ v. ⌜ (v ≡ true → outOfRange (addressOf bias (Defined value) addend) ≡ false) ⌝ }
 {
     if FAR <= value {
-        return false;
-    }
-    if FAR <= bias {
         return false;
     }
     is_inside(bias + value, addend)
@@ -136,6 +132,7 @@ pub fn near_target(f: &[u8], near: Near, kind: u32, symbol: u32) -> Target
 
 // A target that is told, and whose address with an addend is in range.
 fn is_aimed(bias: u64, t: Target, addend: u64) -> bool
+    requires { ⌜ bias < 2 ^ 61 ⌝ }
     ensures { λ v. ⌜ (v ≡ true → Aims bias t addend) ⌝ }
 {
     match t {
@@ -148,7 +145,7 @@ fn is_aimed(bias: u64, t: Target, addend: u64) -> bool
 
 // An entry in which nothing is wrong.
 pub fn is_clear_entry(f: &[u8], m: Module, bias: u64, near: Near, last: Span, i: u32) -> bool
-    requires { ⌜ Inside (now f) m × (i < m .relocations .entries) × Nears (now f) m near × Sound (now f) (m .headers) true last ⌝ }
+    requires { ⌜ Inside (now f) m × (i < m .relocations .entries) × Nears (now f) m near × Sound (now f) (m .headers) true last × (bias < 2 ^ 61) ⌝ }
     ensures { λ v. ⌜ (v ≡ true → Clear (now (f .entry)) m bias i) ⌝ }
 {
     let at = m.relocations.at as usize + ENTRY_BYTES * (i as usize);
@@ -168,6 +165,9 @@ pub fn is_clear_place(f: &[u8], h: Headers, bias: u64, last: Part, place: u64) -
     requires { ⌜ (loadsCheck (now f) h ≡ good tt) × Parted (now f) h true last ⌝ }
     ensures { λ v. ⌜ (v ≡ true → ClearPlace (now (f .entry)) h bias place) ⌝ }
 {
+    if FAR <= bias {
+        return false;
+    }
     if !fits(last.start, last.size, place) {
         return false;
     }

@@ -8,6 +8,7 @@ ghost use Rattle.items.specs.Table.{Inside};
 ghost use Rattle.segments.specs.Spans.{Sound};
 ghost use Rattle.clear.specs.Clear.{Nears};
 ghost use Rattle.entry_faults.specs.Seen.{Ready, Seeing, Sees};
+use clear::FAR;
 use clear::Near;
 use items::ENTRY_BYTES;
 use rules::Module;
@@ -40,8 +41,8 @@ fn entry_place(f: &[u8], m: Module, i: u32) -> u64
     reads::le64(f, m.relocations.at as usize + ENTRY_BYTES * (i as usize))
 }
 
-// Passes over the entries in which nothing is wrong, as few tests tell it; stops at another, or at the end. No search is made here, so that
-// what it keeps stays in registers.
+// Passes over the entries in which nothing is wrong, as few tests tell it; stops at another, or at the end; of a far bias it tells none. No
+// search is made here, so that what it keeps stays in registers.
 fn pass_entries(
     f: &[u8],
     m: Module,
@@ -55,6 +56,12 @@ fn pass_entries(
     ensures onward { λ v. ⌜ from ≤ v .item ⌝ }
     ensures seen { λ v. ⌜ Seeing (now (f .entry)) m bias 0 (m .relocations .entries) (v .tally) (v .item) ⌝ }
 {
+    if FAR <= bias {
+        return Passed {
+            item: from,
+            tally: seen,
+        };
+    }
     let n = m.relocations.entries;
     let mut t = seen;
     let mut i = from;

@@ -7,7 +7,7 @@ ghost use Rattle.rules.specs.Limits.{memoryLimit};
 ghost use Rattle.rules.specs.Packed.{packedBefore};
 ghost use Rattle.rules.specs.Relocations.{items};
 ghost use Rattle.items.specs.Table.{Inside, Bounded, Rising};
-ghost use Rattle.windows.specs.Window.{Wide, Clear};
+ghost use Rattle.windows.specs.Window.{Wide, Empty};
 ghost use Rattle.repeats.specs.Repeats.{Lowers};
 ghost use Rattle.repeats.specs.Search.{large, small, overlap, Passed, Finds, Walkable, Above, Searched};
 use places::START;
@@ -28,6 +28,11 @@ const SMALL: u64 = 65536;
 const LARGE_WINDOW: u64 = LARGE + 8;
 
 const SMALL_WINDOW: u64 = SMALL + 8;
+
+// Bytes of their maps: a code for each word of the window, for the word before it and for the one behind.
+const LARGE_MAP: usize = 65538;
+
+const SMALL_MAP: usize = 4098;
 
 // The lowest packed place below the item found that repeats in a window, where no entry does and the map has their places.
 fn meet_packed(map: &mut [u8], f: &[u8], m: Module, found: Lowest, lo: u64, size: u64) -> Lowest
@@ -67,7 +72,7 @@ fn least(a: u32, b: u32) -> u32
 
 // The lowest item below the one found that repeats in a window, with a map that has no place.
 fn meet_items(map: &mut [u8], f: &[u8], m: Module, found: Lowest, lo: u64, size: u64) -> Lowest
-    requires { ⌜ Wide size (now map) × Clear (now map) × Walkable (now f) m (found .item) ⌝ }
+    requires { ⌜ Wide size (now map) × Empty (now map) × Walkable (now f) m (found .item) ⌝ }
     ensures { λ v. ⌜ Finds (now (f .entry)) m lo size found v ⌝ }
 {
     let r = m.relocations;
@@ -87,7 +92,7 @@ fn find_small(f: &[u8], m: Module, found: Lowest, lo: u64) -> Lowest
     requires { ⌜ Walkable (now f) m (found .item) ⌝ }
     ensures { λ v. ⌜ Finds (now (f .entry)) m lo (small + overlap) found v ⌝ }
 {
-    let mut map = [0u8; 4098];
+    let mut map = [0u8; SMALL_MAP];
     meet_items(&mut map, f, m, found, lo, SMALL_WINDOW)
 }
 
@@ -96,7 +101,7 @@ fn find_in(f: &[u8], m: Module, found: Lowest, lo: u64) -> Lowest
     requires { ⌜ Walkable (now f) m (found .item) ⌝ }
     ensures { λ v. ⌜ Finds (now (f .entry)) m lo (large + overlap) found v ⌝ }
 {
-    let mut map = [0u8; 65538];
+    let mut map = [0u8; LARGE_MAP];
     meet_items(&mut map, f, m, found, lo, LARGE_WINDOW)
 }
 

@@ -16,7 +16,7 @@ use Rattle.rules.proofs.OutcomeLaws.{and-left, and-right}
 use Rattle.laws.proofs.Items.{entry-live, entry-place, packed-live}
 use Rattle.marks.specs.Map.{shares, hit, marked}
 use Rattle.marks.proofs.Laws.{hit-mark, shares-moved}
-use Rattle.windows.specs.Window.{inWindow, entryIn, Wide, Clear, Met, kept, meetsIn, repeatsIn, Holds, Walked}
+use Rattle.windows.specs.Window.{inWindow, entryIn, Wide, Empty, Met, kept, meetsIn, repeatsIn, Holds, Walked}
 use Rattle.rules.proofs.FirstLaws.{some-next}
 use Rattle.windows.proofs.LeastLaws.{least-hit, least-end, none-next}
 
@@ -113,9 +113,9 @@ module _ (f : List ℕ) (m : Module) (lo size : ℕ) where
     pub none : (j : ℕ) → j < i → repeatsIn f m lo size j ≡ false
     pub holds : Holds f m lo size i map
 
-  pub walking-start : (map : List ℕ) → Clear map → Walking 0 map
+  pub walking-start : (map : List ℕ) → Empty map → Walking 0 map
   unfolding first
-  walking-start map clear = record { none = λ j l. absurd (omega arith); holds = λ p. clear p }
+  walking-start map empty = record { none = λ j l. absurd (omega arith); holds = λ p. empty p }
 
   module _ (n i : ℕ) (map : List ℕ) (w : Walking i map) where
     module _ (r : Bool) (after : List ℕ) (met : Met lo (kept f m lo size i) (placeAt f m i) map r after) where

@@ -27,8 +27,8 @@ abbrev pub Wide : ℕ → List ℕ → Type 0
 Wide size map = size + 23 ≤ 16 * length map
 
 -- the map has no place
-abbrev pub Clear : List ℕ → Type 0
-Clear map = (p : ℕ) → hit map p ≡ false
+abbrev pub Empty : List ℕ → Type 0
+Empty map = (p : ℕ) → hit map p ≡ false
 
 -- a place that is kept, or is not, met the map: the answer, and the map after it
 pub record Met (lo : ℕ) (keep : Bool) (place : ℕ) (map : List ℕ) (r : Bool) (after : List ℕ) : Type 0 where

@@ -4,7 +4,7 @@ ghost use Prim.Native.Nat.{_+_, _*_, _≤_};
 ghost use lib.ListN.{length};
 ghost use Rattle.rules.specs.Bytes.{le};
 ghost use Rattle.rules.specs.declared.Module.{Module};
-ghost use Rattle.windows.specs.Window.{inWindow, entryIn, Wide, Clear, Met, Walked};
+ghost use Rattle.windows.specs.Window.{inWindow, entryIn, Wide, Empty, Met, Walked};
 use rules::Relocations;
 
 // Puts a place into the map of a window, if it is there; whether it shares a byte with one that the map has.
@@ -35,7 +35,7 @@ fn meet_entry(map: &mut [u8], f: &[u8], at: usize, lo: u64, size: u64) -> bool
 
 // The lowest of the first n entries that repeats in a window, or n; then the map has their places.
 pub fn meet_entries(map: &mut [u8], f: &[u8], r: Relocations, n: u32, lo: u64, size: u64) -> u32
-    requires { ⌜ Wide size (now map) × Clear (now map) × (n ≤ r .entries) × (r .at + 24 * r .entries ≤ length (now f)) ⌝ }
+    requires { ⌜ Wide size (now map) × Empty (now map) × (n ≤ r .entries) × (r .at + 24 * r .entries ≤ length (now f)) ⌝ }
     ensures { λ v. ⌜ ((m : Module) → m .relocations ≡ r → Walked (now (f .entry)) m lo size n v (now (map .exit))) ⌝ }
 {
     let mut i: u32 = 0;

@@ -28,4 +28,4 @@ pub is-clear-entry-spec : {M : Type 1} → statement M
 is-clear-entry-spec =
     tie.close
     (tie.spec (search needs) (search needs) (search needs) (search needs) (search needs) (λ c e. false-true e) (search needs) (search needs)
-    (search needs) (search needs) (search needs) (search needs) (search needs) (search needs) returns-2)
+    (search needs) (search needs) (search needs) (search needs) (search needs) (λ c κs. search needs) returns-2)

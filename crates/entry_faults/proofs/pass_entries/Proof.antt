@@ -19,23 +19,24 @@ abbrev μ-clear : tie.MeasureT-clear
 μ-clear f m bias near last from n t₀ i₀ t i = n - i
 
 clear-holds : tie.Need-clear-holds Inv-clear μ-clear
-clear-holds c = (c .before .pre .3, omega arith)
+clear-holds c = (c .before .before .pre .3, omega arith)
 
 is-clear-entry-requires : tie.Need-is-clear-entry-requires Inv-clear μ-clear
 is-clear-entry-requires c κs =
-    let S = c .before .before .before in
-    (S .pre .0 .inside, c .clear-test .taken, S .pre .1, S .pre .2)
+    let B = c .before .before in
+    let S = B .before .before in
+    (S .pre .0 .inside, c .clear-test .taken, S .pre .1, S .pre .2, omega (arith, B .if1 .left))
 
 entry-place-requires : tie.Need-entry-place-requires Inv-clear μ-clear
 entry-place-requires c κs =
     let I = c .before .before in
-    (I .before .before .before .pre .0 .inside, I .clear-test .taken)
+    (I .before .before .before .before .pre .0 .inside, I .clear-test .taken)
 
 tally-clear-requires : tie.Need-tally-clear-requires Inv-clear μ-clear
 tally-clear-requires c κs =
     let I = c .before .before .before in
     let L = I .before in
-    let S = L .before .before in
+    let S = L .before .before .before in
     let a = S .args in
     let room = words-room (a .f .now) (a .m) (a .bias) (L .clear .i) (L .clear .t) (L .clear .inv .0 .tallied) in
     let few = S .pre .0 .few in
@@ -47,20 +48,23 @@ clear-again c =
     let E = P .before .before in
     let I = E .before in
     let L = I .before in
-    let S = L .before .before in
+    let S = L .before .before .before in
     let a = S .args in
     let l = L .clear in (
       seeing-clear (a .f .now) (a .m) (S .pre .0) (a .bias) 0 (a .m .relocations .entries) (l .t) (l .i) (l .inv .0) (I .clear-test .taken)
-          (E .is-clear-entry .ensures (not-false _ (P .before .if1 .left))) _ (l .i) _ (P .entry-place .ensures)
+          (E .is-clear-entry .ensures (not-false _ (P .before .if2 .left))) _ (l .i) _ (P .entry-place .ensures)
           (sym (entry-position (a .f .now) (a .m) (l .i) (I .clear-test .taken))) (c .tally-clear .ensures (l .i)),
       omega (arith, l .inv .1),
     )
 
 returns : tie.Need-returns Inv-clear μ-clear
-returns c = let l = c .before .clear in (l .inv .1, l .inv .0)
+returns c = (omega arith, c .before .before .pre .3)
 
 returns-2 : tie.Need-returns-2 Inv-clear μ-clear
-returns-2 c = let l = c .before .before .before .clear in (l .inv .1, l .inv .0)
+returns-2 c = let l = c .before .clear in (l .inv .1, l .inv .0)
+
+returns-3 : tie.Need-returns-3 Inv-clear μ-clear
+returns-3 c = let l = c .before .before .before .clear in (l .inv .1, l .inv .0)
 
 add-i : tie.Need-add-i Inv-clear μ-clear
 add-i c = search needs
@@ -74,6 +78,7 @@ pass-entries-spec =
     (tie.spec
     Inv-clear
     μ-clear
+    returns
     clear-holds
     is-clear-entry-requires
     entry-place-requires
@@ -81,5 +86,5 @@ pass-entries-spec =
     add-i
     clear-less
     clear-again
-    returns
-    returns-2)
+    returns-2
+    returns-3)
