@@ -46,7 +46,7 @@ loadCases =
     refused (with (with sample (header 1 + 32) 8 0) (header 1 + 40) 8 0) 4 1
     ∷ refused (with sample (header 1 + 40) 8 47) 4 1
     ∷ refused (with sample (header 1 + 32) 8 49) 4 1
-    ∷ refused (with sample (header 1 + 40) 8 1047921) 4 1
+    ∷ refused (with sample (header 1 + 40) 8 16776561) 4 1
     ∷ refused (with sample (header 1 + 16) 8 528) 4 1
     ∷ refused (with sample (header 1 + 48) 8 3) 4 1
     ∷ refused (with sample (header 1 + 48) 8 128) 4 1

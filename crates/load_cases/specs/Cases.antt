@@ -93,7 +93,7 @@ lendingCases =
     ∷ unlent (2 ^ 48) 720 45 12
     ∷ unlent bias 704 44 12
     ∷ unlent bias 728 45 12
-    ∷ unlent bias 1048592 65537 12
+    ∷ unlent bias 16777232 1048577 12
     ∷ unlent bias 720 44 12
     ∷ unlent bias 720 46 12
     ∷ lent (with sample (entry 0) 8 660) 0x40000800 720 45 (5 ∷ 9 ∷ 3 ∷ []) (refuse 11 0)

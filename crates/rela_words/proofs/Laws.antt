@@ -11,12 +11,14 @@ use Rattle.rules.specs.Bytes.{le}
 use Rattle.rules.specs.Memory.{bytesOf, put, putWord}
 use Rattle.rules.specs.Relocations.{kindAt, placeAt, live, target}
 use Rattle.rules.specs.declared.Module.{Module}
+use Rattle.rules.specs.Words.{sourceTag}
 use Rattle.rules.specs.declared.Target.{Target}
+use Rattle.rules.specs.declared.Target.the-variants.{Base, Defined, Undefined, Barred}
 use Rattle.rules.proofs.MemoryLaws.{put-length}
 use Rattle.laws.proofs.Checks.{cond-case}
 use Rattle.laws.proofs.Items.{entry-live, entry-place, entry-addend}
 use Rattle.laws.proofs.Writes.{low-bytes}
-use Rattle.rela_words.specs.Words.{putEntry, StandsAt, targetOver, written, relocatedFrom, relocated}
+use Rattle.rela_words.specs.Words.{loadedFor, putEntry, StandsAt, targetOver, written, relocatedFrom, relocated}
 
 -- ---- the low 64 bits
 
@@ -34,6 +36,15 @@ bytes-mod w =
 pub put-mod : (m : List ℕ) (at w : ℕ) → putWord m at (w % 2 ^ 64) ≡ putWord m at w
 unfolding putWord
 put-mod m at w = ap (λ (s : List ℕ). put m at s) (bytes-mod w)
+
+-- the tag of a word is told by no more of its place than that
+pub source-loaded : (plane : List ℕ) (bias n : ℕ) (t : Target) (addend loaded : ℕ)
+    → sourceTag plane bias n t addend (loadedFor t loaded) ≡ sourceTag plane bias n t addend loaded
+unfolding loadedFor
+source-loaded plane bias n Base addend loaded = refl
+source-loaded plane bias n (Defined value) addend loaded = refl
+source-loaded plane bias n Undefined addend loaded = refl
+source-loaded plane bias n Barred addend loaded = refl
 
 -- ---- one item
 

@@ -16,7 +16,7 @@ use Rattle.rules.specs.Addresses.{addressOf}
 use Rattle.rules.specs.Words.{sourceTag, withTag, wordOf}
 use Rattle.rules.specs.declared.Module.{Module}
 use Rattle.rules.specs.declared.Target.{Target}
-use Rattle.rules.specs.declared.Target.the-variants.{Defined}
+use Rattle.rules.specs.declared.Target.the-variants.{Base, Defined, Undefined, Barred}
 use Rattle.places.specs.Ahead.{placeLimit}
 use Rattle.items.specs.Table.{Inside}
 
@@ -24,6 +24,13 @@ use Rattle.items.specs.Table.{Inside}
 abbrev pub targetWord : List ℕ → ℕ → List ℕ → Target → ℕ → ℕ → ℕ
 targetWord plane bias mem t addend place =
     withTag (mod64 (addressOf bias t addend)) (sourceTag plane bias (length mem) t addend (le 8 mem place))
+
+-- what a place holds, where the tag of a target's word is told by it
+unfoldable pub loadedFor : Target → ℕ → ℕ
+loadedFor Base loaded = loaded
+loadedFor (Defined value) loaded = 0
+loadedFor Undefined loaded = 0
+loadedFor Barred loaded = 0
 
 -- a memory with the word of the entry at a position of the file, by its target
 abbrev pub putEntry : List ℕ → ℕ → Target → ℕ → List ℕ → List ℕ → List ℕ

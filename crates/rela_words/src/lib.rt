@@ -2,9 +2,10 @@
 ghost use mathlib.Core.Path.{_≡_};
 ghost use Prim.Native.Nat.{ℕ, _+_, _-_, _≤_};
 ghost use lib.ListN.{length};
+ghost use Rattle.rules.specs.Bytes.{le};
 ghost use Rattle.rules.specs.declared.Module.{Module};
 ghost use Rattle.clear.specs.Clear.{Nears};
-ghost use Rattle.rela_words.specs.Words.{putEntry, StandsAt, written, relocated, relocatedFrom, Placed};
+ghost use Rattle.rela_words.specs.Words.{loadedFor, putEntry, StandsAt, written, relocated, relocatedFrom, Placed};
 use clear::Near;
 use items::ENTRY_BYTES;
 use rules::Entry;
@@ -15,6 +16,18 @@ use rules::Target;
 // A tag stands in bits 56 to 59 of a word.
 pub const TAG_UNIT: u64 = 72057594037927936;
 
+// What a place holds, where the tag of a target's word is told by it: a place far away is not read in vain.
+fn loaded_for(mem: &[u8], t: Target, place: usize) -> u64
+    ensures { λ r. ⌜ r ≡ loadedFor t (le 8 (now (mem .entry)) place) ⌝ }
+{
+    match t {
+        Target::Base => reads::read64(mem, place),
+        Target::Defined(_) => 0,
+        Target::Undefined => 0,
+        Target::Barred => 0,
+    }
+}
+
 // The word of the entry at a position is written at its place: its target's address modulo 2^64, and the tag of its source over what the
 // place holds.
 fn write_word(f: &[u8], at: usize, t: Target, bias: u64, plane: &[u8], mem: &mut [u8])
@@ -23,7 +36,7 @@ fn write_word(f: &[u8], at: usize, t: Target, bias: u64, plane: &[u8], mem: &mut
 {
     let place = reads::le64(f, at) as usize;
     let addend = reads::le64(f, at + 16);
-    let loaded = reads::read64(mem, place);
+    let loaded = loaded_for(mem, t, place);
     let tag = words::source_tag(plane, bias, mem.len() as u64, t, addend, loaded);
     let bare = words::bare_word(bias, t, addend);
     memory::put64(

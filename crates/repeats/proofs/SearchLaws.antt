@@ -18,11 +18,12 @@ use Rattle.laws.proofs.Checks.{some-at, le-or-lt}
 use Rattle.items.specs.Table.{Inside, Bounded, Rising}
 use Rattle.marks.specs.Map.{shares}
 use Rattle.marks.proofs.Laws.{near-shares}
+use Rattle.apart.specs.Apart.{Apart, Walkable}
 use Rattle.windows.specs.Window.{kept, meetsIn, repeatsIn}
 use Rattle.windows.proofs.LeastLaws.{least-first}
 use Rattle.windows.proofs.Laws.{window-in}
 use Rattle.repeats.specs.Repeats.{meets, repeats, Lowers}
-use Rattle.repeats.specs.Search.{Finds, Walkable, Above, Searched}
+use Rattle.repeats.specs.Search.{Finds, Above, Searched}
 use Rattle.repeats.specs.declared.Lowest.{Lowest}
 
 module _ (f : List ℕ) (m : Module) where
@@ -103,14 +104,17 @@ module _ (f : List ℕ) (m : Module) where
     none = λ i j l u a b _. (above i u a, above j (omega arith) b);
   }
 
-  -- places that rise share no byte
-  pub searched-rising : (end : ℕ) (v : Lowest) → Rising f m (v .item) → Searched f m (v .item) end v
-  searched-rising end v rising = record {
+  -- places that share no byte; so do those that rise
+  pub searched-apart : (end : ℕ) (v : Lowest) → Apart f m (v .item) → Searched f m (v .item) end v
+  searched-apart end v apart = record {
     few = omega arith;
     repeated = λ l. absurd (omega arith);
     reported = λ l. absurd (omega arith);
-    none = λ i j l u a b near. absurd (omega (arith, near-shares (placeAt f m j) (placeAt f m i) near .1, rising i j l u a b));
+    none = λ i j l u a b near. absurd (apart i j l u a b near);
   }
+
+  pub rising-apart : (n : ℕ) → Rising f m n → Apart f m n
+  rising-apart n rising i j l u a b near = omega (arith, near-shares (placeAt f m j) (placeAt f m i) near .1, rising i j l u a b)
 
   module _ (n : ℕ) where
     -- a window more, which goes on by 8 bytes past the start of the next

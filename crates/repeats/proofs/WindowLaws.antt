@@ -15,10 +15,11 @@ use Rattle.places.specs.Ahead.{ahead, Standing, Next, Reached, Comes}
 use Rattle.places.specs.declared.Run.{Run}
 use Rattle.places.proofs.Laws.{standingAt}
 use Rattle.places.proofs.ItemLaws.{reached-start, reached-more, come-next}
+use Rattle.apart.specs.Apart.{Walkable}
 use Rattle.windows.specs.Window.{inWindow, Wide, Met, kept, repeatsIn, Holds, Walked}
 use Rattle.windows.proofs.LeastLaws.{least-hit, least-end, none-next}
 use Rattle.windows.proofs.Laws.{met-packed, met-repeats, met-holds}
-use Rattle.repeats.specs.Search.{large, small, overlap, Passed, Finds, Walkable}
+use Rattle.repeats.specs.Search.{large, small, overlap, Passed, Finds}
 use Rattle.repeats.specs.declared.Lowest.{Lowest}
 
 -- the maps are wide enough for their windows

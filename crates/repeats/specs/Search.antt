@@ -4,12 +4,8 @@ use Prim.Native.Nat.{ℕ, _≤_, _<_}
 use mathlib.Core.Path.{_≡_}
 use mathlib.Core.Bool.{true, false}
 use mathlib.Core.List.{List}
-use lib.ListN.{length}
-use Rattle.rules.specs.Packed.{packedBefore}
-use Rattle.rules.specs.Relocations.{placeAt, live, items, positionAt}
+use Rattle.rules.specs.Relocations.{placeAt, live, positionAt}
 use Rattle.rules.specs.declared.Module.{Module}
-use Rattle.places.specs.Ahead.{placeLimit}
-use Rattle.items.specs.Table.{Inside}
 use Rattle.marks.specs.Map.{shares}
 use Rattle.windows.specs.Window.{Least, repeatsIn, Holds}
 use Rattle.repeats.specs.Repeats.{repeats}
@@ -43,13 +39,6 @@ module _ (f : List ℕ) (m : Module) (lo size : ℕ) where
 -- ---- windows one after the other
 
 module _ (f : List ℕ) (m : Module) where
-  -- the first n items can be walked over: they are there, and no place is too high
-  pub record Walkable (n : ℕ) : Type 0 where
-    pub inside : Inside f m
-    pub few : n ≤ items m
-    pub counted : m .packed .places ≡ length (packedBefore f (m .packed .at) (m .packed .words))
-    pub low : (i : ℕ) → i < n → live f m i ≡ true → placeAt f m i ≤ placeLimit
-
   -- no place of the first n items is before the first window
   abbrev pub Above : ℕ → ℕ → Type 0
   Above n lo = (i : ℕ) → i < n → live f m i ≡ true → lo ≤ placeAt f m i

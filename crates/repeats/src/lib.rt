@@ -7,9 +7,10 @@ ghost use Rattle.rules.specs.Limits.{memoryLimit};
 ghost use Rattle.rules.specs.Packed.{packedBefore};
 ghost use Rattle.rules.specs.Relocations.{items};
 ghost use Rattle.items.specs.Table.{Inside, Bounded, Rising};
+ghost use Rattle.apart.specs.Apart.{Walkable};
 ghost use Rattle.windows.specs.Window.{Wide, Empty};
 ghost use Rattle.repeats.specs.Repeats.{Lowers};
-ghost use Rattle.repeats.specs.Search.{large, small, overlap, Passed, Finds, Walkable, Above, Searched};
+ghost use Rattle.repeats.specs.Search.{large, small, overlap, Passed, Finds, Above, Searched};
 use places::START;
 use rules::Module;
 
@@ -60,23 +61,13 @@ fn meet_packed(map: &mut [u8], f: &[u8], m: Module, found: Lowest, lo: u64, size
     found
 }
 
-// The lesser.
-fn least(a: u32, b: u32) -> u32
-    ensures { λ r. ⌜ (r ≤ a) × (r ≤ b) × (a ≤ b → r ≡ a) × (b ≤ a → r ≡ b) ⌝ }
-{
-    if a < b {
-        return a;
-    }
-    b
-}
-
 // The lowest item below the one found that repeats in a window, with a map that has no place.
 fn meet_items(map: &mut [u8], f: &[u8], m: Module, found: Lowest, lo: u64, size: u64) -> Lowest
     requires { ⌜ Wide size (now map) × Empty (now map) × Walkable (now f) m (found .item) ⌝ }
     ensures { λ v. ⌜ Finds (now (f .entry)) m lo size found v ⌝ }
 {
     let r = m.relocations;
-    let n = least(found.item, r.entries);
+    let n = apart::least(found.item, r.entries);
     let i = windows::meet_entries(map, f, r, n, lo, size);
     if i < n {
         return Lowest {
@@ -132,6 +123,9 @@ pub fn find_repeat(f: &[u8], m: Module, n: u32, low: u64, top: u64, rising: bool
         return found;
     }
     if top < low {
+        return found;
+    }
+    if apart::are_apart(f, m, n, low, top) {
         return found;
     }
     if top - low < SMALL {

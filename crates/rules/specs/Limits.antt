@@ -7,11 +7,11 @@ abbrev pub fileLeast : ℕ
 fileLeast = 64
 
 abbrev pub fileLimit : ℕ
-fileLimit = 1048576
+fileLimit = 16777216
 
 -- the end of memory (checks 4 and 12)
 abbrev pub memoryLimit : ℕ
-memoryLimit = 1048576
+memoryLimit = 16777216
 
 -- program headers (check 3)
 abbrev pub headerLimit : ℕ
@@ -23,11 +23,11 @@ dynamicLimit = 4096
 
 -- relocation entries (check 7); entries and packed places together (check 15)
 abbrev pub entryLimit : ℕ
-entryLimit = 1024
+entryLimit = 65536
 
 -- descriptors (check 9)
 abbrev pub globalLimit : ℕ
-globalLimit = 1024
+globalLimit = 65536
 
 -- addresses (checks 9, 12 and 13)
 abbrev pub addressLimit : ℕ

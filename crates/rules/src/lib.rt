@@ -8,10 +8,10 @@ pub mod encoding;
 // The shortest and the longest file.
 pub const FILE_LEAST: u64 = 64;
 
-pub const FILE_LIMIT: u64 = 1048576;
+pub const FILE_LIMIT: u64 = 16777216;
 
 // The end of memory.
-pub const MEMORY_LIMIT: u64 = 1048576;
+pub const MEMORY_LIMIT: u64 = 16777216;
 
 // Program headers.
 pub const HEADER_LIMIT: u32 = 16;
@@ -20,10 +20,10 @@ pub const HEADER_LIMIT: u32 = 16;
 pub const DYNAMIC_LIMIT: u64 = 4096;
 
 // Relocation entries, and with them packed places.
-pub const ENTRY_LIMIT: usize = 1024;
+pub const ENTRY_LIMIT: usize = 65536;
 
 // Descriptors.
-pub const GLOBAL_LIMIT: u32 = 1024;
+pub const GLOBAL_LIMIT: u32 = 65536;
 
 // Addresses are below this.
 pub const ADDRESS_LIMIT: u64 = 281474976710656;

@@ -1,0 +1,164 @@
+// Whether places share no byte, told by a map of the words that they fill: one pass, and a bit a word. It tells so of places that are all
+// a whole number of words apart; of others a search has to.
+ghost use mathlib.Core.Path.{_≡_};
+ghost use mathlib.Core.Bool.{true, not};
+ghost use Prim.Native.Nat.{_+_, _*_, _-_, _≤_, _<_};
+ghost use lib.Dec.{eqb};
+ghost use lib.ListN.{length};
+ghost use Rattle.rules.specs.Bytes.{le};
+ghost use Rattle.items.specs.Table.{Inside, Bounded};
+ghost use Rattle.apart.specs.Apart.{smallMap, middleMap, largeMap, Met, Apart, Spread, Within, Walkable};
+use items::ENTRY_BYTES;
+use places::START;
+use rules::Module;
+
+// Bytes of the maps; each reaches 64 times as many of memory, which is so many times what the next smaller one does.
+const SMALL_MAP: usize = 1024;
+
+const MIDDLE_MAP: usize = 16384;
+
+const LARGE_MAP: usize = 262144;
+
+const SMALL: u64 = 65536;
+
+const MIDDLE: u64 = 1048576;
+
+const LARGE: u64 = 16777216;
+
+const STEP: u64 = 16;
+
+// The lesser.
+pub fn least(a: u32, b: u32) -> u32
+    ensures { λ r. ⌜ (r ≤ a) × (r ≤ b) × (a ≤ b → r ≡ a) × (b ≤ a → r ≡ b) ⌝ }
+{
+    if a < b {
+        return a;
+    }
+    b
+}
+
+// Puts the word of a place at a distance from the lowest into the map; whether the place is not told apart from those before.
+fn meet_place(map: &mut [u8], distance: u64) -> bool
+    requires { ⌜ distance < 64 * length (now map) ⌝ }
+    ensures { λ r. ⌜ Met true distance (now (map .entry)) r (now (map .exit)) ⌝ }
+{
+    if distance % 8 != 0 {
+        return true;
+    }
+    bits::meet_word(map, distance / 8)
+}
+
+// The same for the entry at a position of the file, unless it is skipped.
+fn meet_entry(map: &mut [u8], f: &[u8], at: usize, lo: u64) -> bool
+    requires { ⌜ (at + 24 ≤ length (now f)) × ((le 4 (now f) (at + 8) ≡ 0 → ⊥) → (lo ≤ le 8 (now f) at) × (le 8 (now f) at - lo < 64 * length (now map))) ⌝ }
+    ensures { λ r. ⌜ Met (not (eqb (le 4 (now (f .entry)) (at + 8)) 0)) (le 8 (now (f .entry)) at - lo) (now (map .entry)) r (now (map .exit)) ⌝ }
+{
+    if reads::le32(f, at + 8) == 0 {
+        return false;
+    }
+    meet_place(map, reads::le64(f, at) - lo)
+}
+
+// The first n entries are told apart; then the map has their words.
+fn spread_entries(map: &mut [u8], f: &[u8], m: Module, n: u32, lo: u64) -> bool
+    requires { ⌜ Inside (now f) m × (n ≤ m .relocations .entries) × Within (now f) m lo (length (now map)) n ⌝ }
+    ensures { λ r. ⌜ (r ≡ true → Spread (now (f .entry)) m lo n (now (map .exit))) ⌝ }
+{
+    let mut i: u32 = 0;
+    while i < n {
+        let at = m.relocations.at as usize + ENTRY_BYTES * (i as usize);
+        if meet_entry(map, f, at, lo) {
+            return false;
+        }
+        i += 1;
+    }
+    true
+}
+
+// The first n items are told apart, where the entries among them are and the map has their words.
+fn spread_packed(map: &mut [u8], f: &[u8], m: Module, n: u32, lo: u64) -> bool
+    requires { ⌜ Walkable (now f) m n × Within (now f) m lo (length (now map)) n × (n ≤ m .relocations .entries → Apart (now f) m n) × (m .relocations .entries ≤ n → Spread (now f) m lo (m .relocations .entries) (now map)) ⌝ }
+    ensures { λ r. ⌜ (r ≡ true → Apart (now (f .entry)) m n) ⌝ }
+{
+    let mut run = START;
+    let mut i = m.relocations.entries;
+    while i < n {
+        let t = m.packed;
+        if run.rest % 2 == 1 {
+            run = places::near_place(f, t, run);
+        } else {
+            run = places::next_place(f, t, run);
+        }
+        if meet_place(map, run.place - lo) {
+            return false;
+        }
+        i += 1;
+    }
+    true
+}
+
+// The first n items are told apart, with a map that reaches them.
+fn spread_items(map: &mut [u8], f: &[u8], m: Module, n: u32, lo: u64) -> bool
+    requires { ⌜ Walkable (now f) m n × Within (now f) m lo (length (now map)) n ⌝ }
+    ensures { λ r. ⌜ (r ≡ true → Apart (now (f .entry)) m n) ⌝ }
+{
+    let k = least(n, m.relocations.entries);
+    if !spread_entries(map, f, m, k, lo) {
+        return false;
+    }
+    spread_packed(map, f, m, n, lo)
+}
+
+// The same with a map of its own, by its size.
+fn apart_small(f: &[u8], m: Module, n: u32, lo: u64) -> bool
+    requires { ⌜ Walkable (now f) m n × Within (now f) m lo smallMap n ⌝ }
+    ensures { λ r. ⌜ (r ≡ true → Apart (now (f .entry)) m n) ⌝ }
+{
+    let mut map = [0u8; SMALL_MAP];
+    spread_items(&mut map, f, m, n, lo)
+}
+
+fn apart_middle(f: &[u8], m: Module, n: u32, lo: u64) -> bool
+    requires { ⌜ Walkable (now f) m n × Within (now f) m lo middleMap n ⌝ }
+    ensures { λ r. ⌜ (r ≡ true → Apart (now (f .entry)) m n) ⌝ }
+{
+    let mut map = [0u8; MIDDLE_MAP];
+    spread_items(&mut map, f, m, n, lo)
+}
+
+fn apart_large(f: &[u8], m: Module, n: u32, lo: u64) -> bool
+    requires { ⌜ Walkable (now f) m n × Within (now f) m lo largeMap n ⌝ }
+    ensures { λ r. ⌜ (r ≡ true → Apart (now (f .entry)) m n) ⌝ }
+{
+    let mut map = [0u8; LARGE_MAP];
+    spread_items(&mut map, f, m, n, lo)
+}
+
+// The same with the smallest map that reaches them, where one of a reach does. It calls itself so that the larger maps are not in the frames
+// of its callers.
+fn apart_within(f: &[u8], m: Module, n: u32, low: u64, top: u64, reach: u64) -> bool
+    requires { ⌜ Walkable (now f) m n × Bounded (now f) m n low top × (low ≤ top) × (top - low < reach) × (reach ≤ 64 * largeMap) ⌝ }
+    ensures { λ r. ⌜ (r ≡ true → Apart (now (f .entry)) m n) ⌝ }
+{
+    if reach <= SMALL {
+        return apart_small(f, m, n, low);
+    }
+    if top - low < reach / STEP {
+        return apart_within(f, m, n, low, top, reach / STEP);
+    }
+    if reach <= MIDDLE {
+        return apart_middle(f, m, n, low);
+    }
+    apart_large(f, m, n, low)
+}
+
+// The first n items are told apart. Their places are from low to top.
+pub fn are_apart(f: &[u8], m: Module, n: u32, low: u64, top: u64) -> bool
+    requires { ⌜ Walkable (now f) m n × Bounded (now f) m n low top × (low ≤ top) ⌝ }
+    ensures { λ r. ⌜ (r ≡ true → Apart (now (f .entry)) m n) ⌝ }
+{
+    if top - low < LARGE {
+        return apart_within(f, m, n, low, top, LARGE);
+    }
+    false
+}
