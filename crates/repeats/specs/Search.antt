@@ -11,7 +11,7 @@ use Rattle.windows.specs.Window.{Least, repeatsIn, Holds}
 use Rattle.repeats.specs.Repeats.{repeats}
 use Rattle.repeats.specs.declared.Lowest.{Lowest}
 
--- windows of a large module start so many bytes apart; a small module has one; each goes on by so many that two places that share a
+-- large windows start so many bytes apart; a small one is where no more are left; each goes on by so many that two places that share a
 -- byte are both in the window in which the lower one starts
 abbrev pub large : ℕ
 large = 1048576

@@ -1,7 +1,7 @@
 // The lowest item whose place shares a byte with an earlier one's: the places are put into a map one after the other.
 ghost use mathlib.Core.Path.{_≡_};
 ghost use mathlib.Core.Bool.{true};
-ghost use Prim.Native.Nat.{_+_, _*_, _≤_};
+ghost use Prim.Native.Nat.{ℕ, _+_, _≤_};
 ghost use lib.ListN.{length};
 ghost use Rattle.rules.specs.Limits.{memoryLimit};
 ghost use Rattle.rules.specs.Packed.{packedBefore};
@@ -10,7 +10,7 @@ ghost use Rattle.items.specs.Table.{Inside, Bounded, Rising};
 ghost use Rattle.apart.specs.Apart.{Walkable};
 ghost use Rattle.windows.specs.Window.{Wide, Empty};
 ghost use Rattle.repeats.specs.Repeats.{Lowers};
-ghost use Rattle.repeats.specs.Search.{large, small, overlap, Passed, Finds, Above, Searched};
+ghost use Rattle.repeats.specs.Search.{large, small, overlap, Passed, Finds, Searched};
 use places::START;
 use rules::Module;
 
@@ -20,7 +20,7 @@ pub struct Lowest {
     pub position: u64,
 }
 
-// The windows of a large module start so many bytes apart; a small module is in one.
+// Large windows start so many bytes apart; a small one is where no more are left.
 const LARGE: u64 = 1048576;
 
 const SMALL: u64 = 65536;
@@ -78,7 +78,7 @@ fn meet_items(map: &mut [u8], f: &[u8], m: Module, found: Lowest, lo: u64, size:
     meet_packed(map, f, m, found, lo, size)
 }
 
-// The same with a map of its own, in the window of a small module.
+// The same with a map of its own, in a small window.
 fn find_small(f: &[u8], m: Module, found: Lowest, lo: u64) -> Lowest
     requires { ⌜ Walkable (now f) m (found .item) ⌝ }
     ensures { λ v. ⌜ Finds (now (f .entry)) m lo (small + overlap) found v ⌝ }
@@ -87,7 +87,7 @@ fn find_small(f: &[u8], m: Module, found: Lowest, lo: u64) -> Lowest
     meet_items(&mut map, f, m, found, lo, SMALL_WINDOW)
 }
 
-// In one of a large module.
+// In a large one.
 fn find_in(f: &[u8], m: Module, found: Lowest, lo: u64) -> Lowest
     requires { ⌜ Walkable (now f) m (found .item) ⌝ }
     ensures { λ v. ⌜ Finds (now (f .entry)) m lo (large + overlap) found v ⌝ }
@@ -96,17 +96,20 @@ fn find_in(f: &[u8], m: Module, found: Lowest, lo: u64) -> Lowest
     meet_items(&mut map, f, m, found, lo, LARGE_WINDOW)
 }
 
-// In k windows one after the other, each below the lowest found before it. It calls itself so that the map of a large module is not
-// in the frames of its callers.
-fn find_windows(f: &[u8], m: Module, found: Lowest, lo: u64, k: u64) -> Lowest
-    requires { ⌜ Walkable (now f) m (found .item) × Above (now f) m (found .item) lo × (lo + large * k ≤ memoryLimit + large) ⌝ }
-    ensures { λ v. ⌜ Searched (now (f .entry)) m (found .item) (lo + large * k) v ⌝ }
+// In windows one after the other from low to top, each below the lowest found before it; the last is small if it may be. It calls itself so
+// that no map is in the frames of its callers.
+fn find_windows(f: &[u8], m: Module, found: Lowest, low: u64, top: u64) -> Lowest
+    requires { ⌜ Walkable (now f) m (found .item) × (low ≤ top) × (top ≤ memoryLimit) ⌝ }
+    ensures { λ v. ⌜ ((n : ℕ) → Searched (now (f .entry)) m n low found → Searched (now (f .entry)) m n (top + 1) v) ⌝ }
 {
-    if k == 0 {
-        return found;
+    if top - low < SMALL {
+        return find_small(f, m, found, low);
     }
-    let before = find_windows(f, m, found, lo, k - 1);
-    find_in(f, m, before, lo + LARGE * (k - 1))
+    let here = find_in(f, m, found, low);
+    if top - low < LARGE {
+        return here;
+    }
+    find_windows(f, m, here, low + LARGE, top)
 }
 
 // The lowest of the first n items whose place shares a byte with an earlier one's; n where there is none. The places are from low to top;
@@ -128,8 +131,5 @@ pub fn find_repeat(f: &[u8], m: Module, n: u32, low: u64, top: u64, rising: bool
     if apart::are_apart(f, m, n, low, top) {
         return found;
     }
-    if top - low < SMALL {
-        return find_small(f, m, found, low);
-    }
-    find_windows(f, m, found, low, (top - low) / LARGE + 1)
+    find_windows(f, m, found, low, top)
 }

@@ -1,11 +1,10 @@
--- Places that rise, or no item, or places told apart, or all in one window, or in windows one after the other.
+-- Places that rise, or none, or places told apart, or those of windows one after the other.
 -- Assumes nothing.
-use Prim.Native.Nat.{_+_, _*_, _-_, _/_}
+use Prim.Native.Nat.{_+_}
 use native.Mathlib.Omega.{arith}
 use borrow.Author.Needs.{needs}
-use Rattle.repeats.specs.Search.{large, small, overlap}
 use Rattle.repeats.specs.declared.Lowest.{Lowest}
-use Rattle.repeats.proofs.SearchLaws.{bounded-walkable, searched-none, searched-apart, rising-apart, searched-next, searched-all}
+use Rattle.repeats.proofs.SearchLaws.{bounded-walkable, searched-none, searched-apart, rising-apart, searched-all}
 use Rattle.repeats.proofs.find_repeat.Statement.{statement}
 use Rattle.repeats.proofs.find_repeat.Tie as tie
 
@@ -44,50 +43,22 @@ returns-3 c =
     searched-all (a .f .now) (a .m) (a .n) (a .top + 1) found (λ i l e. omega (arith, b .below i l e))
     (searched-apart (a .f .now) (a .m) (a .top + 1) found (A .are-apart .ensures (c .if3 .taken)))
 
-find-small-requires : tie.Need-find-small-requires
-find-small-requires c κs =
-    let S = c .before .before .before .before .before .before in
+find-windows-requires : tie.Need-find-windows-requires
+find-windows-requires c κs =
+    let S = c .before .before .before .before .before in
     let a = S .args in
     let p = S .pre in
-    bounded-walkable (a .f .now) (a .m) (a .n) (a .low) (a .top) (p .0) (p .1) (p .2) (p .3) (p .4)
+    (bounded-walkable (a .f .now) (a .m) (a .n) (a .low) (a .top) (p .0) (p .1) (p .2) (p .3) (p .4), omega arith, p .4)
 
 returns-4 : tie.Need-returns-4
 returns-4 c =
-    let T = c .before in
-    let S = T .before .before .before .before .before .before in
+    let E = c .before in
+    let S = E .before .before .before .before .before in
     let a = S .args in
     let b = S .pre .3 in
     let found : Lowest = record { item = a .n; position = 0 } in
-    searched-all (a .f .now) (a .m) (a .n) (a .low + small) _ (λ i l e. omega (arith, b .below i l e, T .if4 .taken))
-    (searched-next (a .f .now) (a .m) (a .n) (a .low) (small + overlap) (a .low + small) found _ (omega arith)
-    (searched-none (a .f .now) (a .m) (a .low) found (b .above)) (c .find-small .ensures))
-
-find-windows-requires : tie.Need-find-windows-requires
-find-windows-requires c κs =
-    let S = c .before .before .before .before .before .before in
-    let a = S .args in
-    let p = S .pre in
-    (bounded-walkable (a .f .now) (a .m) (a .n) (a .low) (a .top) (p .0) (p .1) (p .2) (p .3) (p .4), p .3 .above, omega (arith, p .4))
-
-returns-5 : tie.Need-returns-5
-returns-5 c =
-    let E = c .before in
-    let S = E .before .before .before .before .before .before in
-    let a = S .args in
-    let b = S .pre .3 in
-    searched-all (a .f .now) (a .m) (a .n) (a .low + large * ((a .top - a .low) / large + 1)) _ (λ i l e. omega (arith, b .below i l e))
-    (c .find-windows .ensures)
+    searched-all (a .f .now) (a .m) (a .n) (a .top + 1) _ (λ i l e. omega (arith, b .below i l e))
+    (c .find-windows .ensures (a .n) (searched-none (a .f .now) (a .m) (a .low) found (b .above)))
 
 pub find-repeat-spec : {M : Type 1} → statement M
-find-repeat-spec =
-    tie.close
-    (tie.spec
-    returns
-    returns-2
-    are-apart-requires
-    returns-3
-    find-small-requires
-    returns-4
-    (search needs)
-    find-windows-requires
-    returns-5)
+find-repeat-spec = tie.close (tie.spec returns returns-2 are-apart-requires returns-3 find-windows-requires returns-4)
