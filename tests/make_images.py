@@ -2,7 +2,8 @@
 """make_images.py DIR: writes images NAME.img with what examine_image must write of each, NAME.out, into DIR.
 make_images.py --sheet: writes the bench sheet's image to standard output.
 
-What is expected stands beside each image, by document 01 and request 3; nothing here reads an image.
+What is expected stands beside each image, by document 01 and requests 3 and 5; nothing here reads an image.
+The program reads 65,536 bytes at most, so the limits of entries and globals are out of its reach.
 """
 import os
 import struct
@@ -112,9 +113,14 @@ def cases():
     yield "modes", image(extra=[(MODE, 1), (HEAP, 0), (STACK, 1)]), SHEET_GLOBALS
     yield "padded", image(descriptors=bytes.fromhex("8100 0000 0007 07")), [(0, 1), (16, 1), (32, 8), (160, 7)]
     yield "longest", image(length=65536), SHEET_GLOBALS
-    yield "many_globals", image(descriptors=b"\x01" * 1024, entries=[(GLOBALS, 0x400), (GLOBALSSZ, 1024), (0, 0)], memory=0x4000,
-        relocations=[b"\x01" * 1024]), [(16 * i, 1) for i in range(1024)]
-    yield "many_relocations", image(relocations=[rela(0x6800 + 8 * i, RELATIVE) for i in range(1024)], memory=0x9000), SHEET_GLOBALS
+    # As many as an image has room for.
+    for name, count in ("many", 1025), ("most", 65536 - RELA):
+        yield name + "_globals", image(entries=[(GLOBALS, RELA), (GLOBALSSZ, count), (0, 0)], memory=16 * count,
+            descriptors=None, relocations=[b"\x01" * count]), [(16 * i, 1) for i in range(count)]
+    for name, count in ("many", 1025), ("most", (65536 - RELA) // 24):
+        places = [rela(0x10000 + 8 * i, RELATIVE) for i in range(count)]
+        yield name + "_relocations", image(relocations=places, memory=0x16000), SHEET_GLOBALS
+    yield "many_packed", image(packed=[0x6800] + [2**64 - 1] * 16 + [2**17 - 1], memory=0x9000), SHEET_GLOBALS
     yield "weak_undefined", image(symbols=[symbol(), symbol(0x20, 0)], relocations=[rela(PLACE, ABS64, 1)]), SHEET_GLOBALS
     yield "glob_dat", image(symbols=[symbol(), symbol(0x11)], relocations=[rela(PLACE, GLOB_DAT, 1)]), SHEET_GLOBALS
     yield "skipped", image(relocations=[rela(PLACE, 0, 9), rela(3, 0), rela(PLACE, RELATIVE)]), SHEET_GLOBALS
@@ -143,7 +149,8 @@ def cases():
         ("no_memory", load(0x2000, 0, 0)),
         ("file_over_memory", load(0x2000, 16, 8, offset=0)),
         ("outside_file", load(0x2000, 0x400, 0x400)),
-        ("outside_memory", load(0x100000, 0, 16)),
+        ("outside_memory", load(0x1000000, 0, 16)),
+        ("one_past_memory", load(0xFFFFF1, 0, 16)),
         ("wraps", load(2**64 - 16, 0, 32)),
         ("overlap", load(0x1FF0, 0, 0x1000)),
         ("align_3", load(0x2001, 0, 16, align=3)),
@@ -153,6 +160,8 @@ def cases():
         if name != "overlap":
             yield "load_first_" + name, image(headers=lambda n, d: [dynamic(d), bad, bad]), (4, 1)
     aligned = load(0x2008, 0, 16, offset=8, align=4096)
+    for name, last in ("above_a_mib", load(0x100000, 0, 16)), ("to_the_end", load(0xFFFFF0, 0, 16)):
+        yield "load_" + name, image(headers=lambda n, d: [load(0, n, 0x2000), last, dynamic(d)]), SHEET_GLOBALS
     yield "load_align_agrees", image(headers=lambda n, d: [load(0, n, 0x2000), aligned, dynamic(d)]), SHEET_GLOBALS
     # 5: PT_DYNAMIC
     yield "no_dynamic", image(headers=lambda n, d: [load(0, n, 0x2000)]), (5, 1)
@@ -187,15 +196,18 @@ def cases():
     # 7: the relocation table; then the descriptor table
     yield "rela_not_backed", image(entries=[(7, 0x1000), (8, 24), (9, 24), (0, 0)]), (7, 0)
     yield "rela_wraps", image(entries=[(7, 2**64 - 24), (8, 48), (9, 24), (0, 0)]), (7, 0)
-    many = [rela(0x6800 + 8 * i, RELATIVE) for i in range(1025)]
-    yield "rela_too_many", image(relocations=many, memory=0x9000), (7, 0)
     yield "descriptors_not_backed", image(entries=[(GLOBALS, 0x3FF), (GLOBALSSZ, 2), (0, 0)]), (7, 1)
     yield "both_not_backed", image(entries=[(7, 0x1000), (8, 24), (9, 24), (GLOBALS, 0x1000), (GLOBALSSZ, 1), (0, 0)]), (7, 0)
     # 15: the packed table
     yield "packed_no_bytes", image(entries=[(36, 2**63), (35, 0), (37, 8), (0, 0)]), []
     yield "packed_not_backed", image(entries=[(36, 0x3FC), (35, 8), (37, 8), (0, 0)]), (15, 0)
     yield "packed_odd_first", image(packed=[1, PLACE]), (15, 0)
-    yield "packed_too_many", image(packed=[PLACE] + [1] * 3 + [2**64 - 1] * 10, relocations=[rela(0, 0)] * 600, memory=0x5000), (15, 10)
+    # 600 entries and a place, so that 64,935 places more are allowed: the bits of 1,030 full bitmaps, and 45.
+    skipped, at = rela(0, 0) * 600, RELA + 24 * 600
+    for name, last, says in ("too_many", 46, (15, 1034)), ("most", 45, (11, 600)):
+        words = [4] + [1] * 3 + [2**64 - 1] * 1030 + [2 ** (last + 1) - 1]
+        yield "packed_" + name, image(relocations=[skipped, struct.pack(f"<{len(words)}Q", *words)], memory=0x8000,
+            entries=[(7, RELA), (8, len(skipped)), (9, 24), (36, at), (35, 8 * len(words)), (37, 8), (0, 0)]), says
     yield "packed_before_descriptors", image(packed=[1], descriptors=b"\x00"), (15, 0)
     tables = [(36, 0x380), (35, 8), (37, 8), (GLOBALS, 0x1000), (GLOBALSSZ, 1), (0, 0)]
     yield "packed_after_seven", image(entries=tables, words=[(0x380, 1)]), (7, 1)
@@ -212,8 +224,6 @@ def cases():
     halves = lambda n, d: [load(0, n, 0x1000), load(0x1000, 0, 0x1000), dynamic(d)]
     yield "global_over_two", image(descriptors=bytes.fromhex("f10f 02"), headers=halves), (9, 1)
     yield "nine_then_eight", image(descriptors=bytes.fromhex("00 ff07 00")), (9, 0)
-    yield "too_many_globals", image(entries=[(GLOBALS, 0x400), (GLOBALSSZ, 1025), (0, 0)], memory=0x8000,
-        relocations=[b"\x01" * 1025]), (9, 1024)
     # 10 and 11: one walk over the relocations
     ok = rela(PLACE, RELATIVE)
     for name, bad in (

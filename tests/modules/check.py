@@ -16,9 +16,9 @@ import subprocess
 import sys
 
 MASK = (1 << 64) - 1
-LIMIT = 1 << 20
+LIMIT = 1 << 24
 ABS64, GLOB_DAT, RELATIVE = 257, 1025, 1027
-RELRSZ, RELR, RELRENT, MOST = 35, 36, 37, 1024
+RELRSZ, RELR, RELRENT, MOST = 35, 36, 37, 65536
 MODE, HEAP, STACK, GLOBALS, GLOBALSSZ = 0x70000009, 0x7000000B, 0x7000000C, 0x7000000D, 0x7000000F
 PAGE = 4096
 # Multiples of the largest align of every module here.
@@ -258,9 +258,12 @@ PACKED = {
     "limits_last": ("limits", 12), "last": ("back", 0), "dense": ("limits", 0), "level_end": ("level", 4), "absent": (None, 0),
 }
 UNTAGGED = {"values_end": ("values", 16), "shared_at": ("shared_value", 0)}
+NINE_HOUR = {"log_at": ("lines", 0), "log_end": ("lines", 128), "age_at": ("age", 0), "temperature_at": ("temperature", 0)}
+LARGE = {"space_end": ("space", 2 << 20), "pointers": ("value", 0)}
 MEANT = {
     "pointers": POINTERS, "pointers_norelro": POINTERS, "pointers_symbolic": POINTERS,
-    "nine_hour": {"log_at": ("lines", 0), "log_end": ("lines", 128), "age_at": ("age", 0), "temperature_at": ("temperature", 0)},
+    "nine_hour": NINE_HOUR, "based": NINE_HOUR,
+    "large": LARGE, "packed_large": LARGE, "many_globals": {},
     "far": {"far_before": ("table", -0x100000)},
     "asynchronous": {"level_at": ("level", 0)},
     "aligned": {"table_at": ("table", 0), "table_end": ("table", 256), "level_at": ("level", 0)},
@@ -272,7 +275,8 @@ MEANT = {
     "pointers_stripped": {}, "unseen_clang": {},
 }
 # Modules of which a linker packed words, and how many of them at least.
-WITH_PACKED = {"packed": 200, "packed_z": 200, "packed_pointers": 13, "packed_untagged": 1, "packed_clang": 1, "packed_seen": 1, "packed_far": 1}
+WITH_PACKED = {"packed": 200, "packed_z": 200, "packed_pointers": 13, "packed_untagged": 1, "packed_clang": 1, "packed_seen": 1, "packed_far": 1,
+               "packed_large": 2000}
 
 
 def check_meaning(m, memory, bias, choices):
@@ -406,7 +410,7 @@ def check_packed_edits(m, loader, scratch):
     last = table + 8 * (len(words) - 1)
     index, place = m.packed[130]
     # Room for a longer table; the entry of its bytes stands behind that of its address.
-    space = m.symtab["space"][0]
+    space, full = m.symtab["space"][0], MOST // 63 + 2
     expect(entry(RELRSZ) == entry(RELR) + 1, f"{m.name}: the packed entries stand apart")
     for what, data, number, position, examined in [
         ("packed bytes 4 more", put(value_of(RELRSZ), m.tag(RELRSZ) + 4), 6, entry(RELRSZ), None),
@@ -414,8 +418,8 @@ def check_packed_edits(m, loader, scratch):
         ("no packed entry size", put(value_of(RELRENT) - 8, 0x6FFFE003), 6, first(m.dynamic, lambda d: d[0] == 0), None),
         ("packed words outside", put(value_of(RELR), 0xF0000), 15, 0, None),
         ("a bitmap first", put(table, words[0] | 1), 15, 0, None),
-        ("full bitmaps", put(m.offset(space), words[0], *[MASK] * 30, data=put(value_of(RELR), space, RELRSZ, 8 * 31)), 15,
-         first(range(31), lambda i: rela + 1 + 63 * i > MOST), None),
+        ("full bitmaps", put(m.offset(space), words[0], *[MASK] * full, data=put(value_of(RELR), space, RELRSZ, 8 * (full + 1))), 15,
+         first(range(full + 1), lambda i: rela + 1 + 63 * i > MOST), None),
         ("a place at 4 modulo 8", put(last, words[-1] + 4), 11, rela + len(words) - 1, None),
         ("a packed place in read-only memory", put(last, 0x100), 11, rela + len(words) - 1, None),
         ("a RELA place packed", put(last, m.rela[1][0]), 11, rela + len(words) - 1, None),
@@ -450,7 +454,7 @@ REFUSED = {
     "refused_ifunc": (6, lambda m: first(m.dynamic, lambda d: d[0] == 23)),
     "refused_many_words": (7, lambda m: 0),
     "refused_relr_many": (15, lambda m: m.packed[MOST - len(m.rela)][0]),
-    "refused_many_globals": (9, lambda m: 1024),
+    "refused_many_globals": (9, lambda m: MOST),
     "refused_tls": (10, lambda m: first(m.rela, lambda r: r[4] == "R_AARCH64_TLSDESC")),
     "refused_ifunc_symbolic": (10, lambda m: first(m.rela, lambda r: r[4].startswith("R_AARCH64_IRELATIV"))),
     "refused_absolute": (10, lambda m: first(m.rela, lambda r: m.dynsym[r[2]][4] == "ABS")),

@@ -15,7 +15,7 @@ __attribute__((no_sanitize("memtag"))) static int limits[4] = {1, 2, 3, 4};
 int *limits_last = limits + 3;
 int *limits_end = limits + 4; /* the address of the tagged global behind, and so its tag */
 int *dense[150] = {FOUR(FOUR(FOUR(limits, limits + 1))), limits + 2};
-char space[6000] = {1};
+char space[9000] = {1};
 int (*last)(int) = back;
 
 static int level = 2;

@@ -1,3 +1,3 @@
-/* Two MiB of zeros: more than the addresses that a module has. */
+/* Sixteen MiB of zeros behind the module's own bytes: more than the addresses that a module has. */
 
-char space[2 << 20];
+char space[16 << 20];

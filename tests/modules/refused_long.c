@@ -1,3 +1,3 @@
-/* A file over 1,048,576 bytes. */
+/* A file over 16,777,216 bytes. */
 
-const char map[1 << 20] = {1};
+const char map[16 << 20] = {1};

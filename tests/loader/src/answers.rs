@@ -75,8 +75,7 @@ impl Outcome {
 
     /// Memory and plane are still the pattern.
     pub fn untouched(&self) -> bool {
-        self.memory == memory_pattern(self.memory.len())
-            && self.plane == plane_pattern(self.plane.len())
+        MEMORY.is(&self.memory) && PLANE.is(&self.plane)
     }
 }
 
@@ -116,20 +115,39 @@ impl Written {
 
     /// The buffer from some byte on is still the pattern.
     pub fn untouched_from(&self, start: usize) -> bool {
-        self.buffer[start..] == buffer_pattern(self.buffer.len())[start..]
+        let row = BUFFER.row();
+        self.buffer.iter().zip(row.iter().cycle()).skip(start).all(|(byte, lent)| byte == lent)
     }
 }
 
-pub fn buffer_pattern(length: usize) -> Vec<u8> {
-    (0..length).map(|i| (i * 13 + 5) as u8).collect()
+/// What a lent buffer holds before a call: byte i is i × factor + first, so that 256 bytes come again
+/// and again.
+#[derive(Clone, Copy)]
+struct Pattern {
+    factor: usize,
+    first: usize,
 }
 
-pub fn memory_pattern(length: usize) -> Vec<u8> {
-    (0..length).map(|i| (i * 7 + 3) as u8).collect()
-}
+const BUFFER: Pattern = Pattern { factor: 13, first: 5 };
+const MEMORY: Pattern = Pattern { factor: 7, first: 3 };
+const PLANE: Pattern = Pattern { factor: 5, first: 1 };
 
-pub fn plane_pattern(length: usize) -> Vec<u8> {
-    (0..length).map(|i| (i * 5 + 1) as u8).collect()
+impl Pattern {
+    fn row(self) -> [u8; 256] {
+        std::array::from_fn(|i| (i * self.factor + self.first) as u8)
+    }
+
+    fn extend(self, bytes: &mut Vec<u8>, length: usize) {
+        let row = self.row();
+        for start in (0..length).step_by(row.len()) {
+            bytes.extend(&row[..row.len().min(length - start)]);
+        }
+    }
+
+    fn is(self, bytes: &[u8]) -> bool {
+        let row = self.row();
+        bytes.chunks(row.len()).all(|part| *part == row[..part.len()])
+    }
 }
 
 /// A lent buffer between margins, at an odd address.
@@ -139,9 +157,12 @@ const MARGIN: usize = 61;
 const BESIDE: u8 = 0xc9;
 
 impl Lent {
-    fn new(bytes: &[u8]) -> Lent {
-        let margin = [BESIDE; MARGIN];
-        Lent([&margin, bytes, &margin].concat())
+    fn new(pattern: Pattern, length: usize) -> Lent {
+        let mut all = Vec::with_capacity(length + 2 * MARGIN);
+        all.extend([BESIDE; MARGIN]);
+        pattern.extend(&mut all, length);
+        all.extend([BESIDE; MARGIN]);
+        Lent(all)
     }
 
     fn bytes(&mut self) -> &mut [u8] {
@@ -152,6 +173,13 @@ impl Lent {
     fn strayed(&self) -> bool {
         let end = self.0.len() - MARGIN;
         self.0[..MARGIN].iter().chain(&self.0[end..]).any(|&b| b != BESIDE)
+    }
+
+    /// The buffer without its margins.
+    fn into_bytes(mut self) -> Vec<u8> {
+        self.0.truncate(self.0.len() - MARGIN);
+        self.0.drain(..MARGIN);
+        self.0
     }
 }
 
@@ -173,24 +201,24 @@ pub trait Loader {
     fn write_table(&self, addresses: &[u64], sizes: &[u64], buffer: &mut [u8]) -> u64;
 
     fn outcome(&self, call: &Call) -> Outcome {
-        let mut memory = Lent::new(&memory_pattern(call.memory_length));
-        let mut plane = Lent::new(&plane_pattern(call.plane_length));
+        let mut memory = Lent::new(MEMORY, call.memory_length);
+        let mut plane = Lent::new(PLANE, call.plane_length);
         let load = self.load(&call.file, call.bias, memory.bytes(), plane.bytes(), &call.choices);
         let (examine, facts) = (self.examine(&call.file), self.facts(&call.file));
         Outcome {
             load,
             strayed: memory.strayed() || plane.strayed(),
-            memory: memory.bytes().to_vec(),
-            plane: plane.bytes().to_vec(),
+            memory: memory.into_bytes(),
+            plane: plane.into_bytes(),
             examine,
             facts,
         }
     }
 
     fn written(&self, list: &Listing) -> Written {
-        let mut buffer = Lent::new(&buffer_pattern(list.buffer_length));
+        let mut buffer = Lent::new(BUFFER, list.buffer_length);
         let answer = self.write_table(&list.addresses, &list.sizes, buffer.bytes());
-        Written { answer, strayed: buffer.strayed(), buffer: buffer.bytes().to_vec() }
+        Written { answer, strayed: buffer.strayed(), buffer: buffer.into_bytes() }
     }
 }
 

@@ -45,6 +45,9 @@ pub fn difference(call: &Call, plain: &Outcome, other: &Outcome) -> String {
 
 /// How the bytes of the loader of a name differ from the other's.
 fn bytes_differ(what: &str, name: &str, a: &[u8], b: &[u8]) -> Option<String> {
+    if a == b {
+        return None;
+    }
     let count = a.iter().zip(b).filter(|(x, y)| x != y).count();
     let at = (0..a.len()).find(|&i| a[i] != b[i])?;
     let (x, y) = (a[at], b[at]);
@@ -226,6 +229,11 @@ pub fn run(settings: &Settings) -> Result<Counts, String> {
             }
         }
     }
+    vectors::each_large(|i, v| {
+        if !run.full() {
+            run.call(&format!("vector {i} of {}, {}", vectors::LARGE, v.name), &v.call);
+        }
+    });
     for (i, v) in vectors::steps().iter().enumerate() {
         if !run.full() {
             run.step(&format!("descriptor vector {i}"), &v.table, v.position, v.last_end, v.index);

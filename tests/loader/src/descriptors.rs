@@ -102,7 +102,7 @@ pub fn count<R: Rules>(table: &[u8], segments: &Segments) -> Result<u64, Refusal
     let mut outside = None;
     while at < table.len() {
         if index == R::MOST_DESCRIPTORS as u64 {
-            return Err(refusal(9, index));
+            return Err(refusal(9, R::left_at(index)));
         }
         let global = read::<R>(table, at, last_end);
         let Global { start, end, next } = global.map_err(|number| refusal(number, index))?;

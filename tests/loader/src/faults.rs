@@ -135,9 +135,14 @@ faults! {
             Self::address(bias, value, addend)
         }
     }
-    FileAtLimit "a file below 1,048,576 bytes only" {
+    FileAtLimit "a file below 16,777,216 bytes only" {
         fn file_length(length: u64) -> bool {
-            (64..1_048_576).contains(&length)
+            (64..16_777_216).contains(&length)
+        }
+    }
+    FileSmall "a file of 1,048,576 bytes at most" {
+        fn file_length(length: u64) -> bool {
+            (64..=1_048_576).contains(&length)
         }
     }
     FileOver "a file of any length" {
@@ -149,6 +154,24 @@ faults! {
         fn sum(a: u64, b: u64) -> u64 {
             a.wrapping_add(b)
         }
+    }
+    LoadsHigher "PT_LOADs may end one past 16,777,216" {
+        const LOADS_END: u64 = 16_777_217;
+    }
+    LoadsLower "PT_LOADs end below 16,777,216" {
+        const LOADS_END: u64 = 16_777_215;
+    }
+    LoadsLow "PT_LOADs end at 1,048,576" {
+        const LOADS_END: u64 = 1_048_576;
+    }
+    MemoryLonger "a memory of 16,777,232 bytes" {
+        const MEMORY_BYTES: u64 = 16_777_232;
+    }
+    MemoryAtLimit "a memory of 16,777,200 bytes at most" {
+        const MEMORY_BYTES: u64 = 16_777_200;
+    }
+    MemorySmall "a memory of 1,048,576 bytes at most" {
+        const MEMORY_BYTES: u64 = 1_048_576;
     }
     LoadsOverlap "PT_LOADs may overlap" {
         fn follows(_: u64, _: u64) -> bool {
@@ -220,20 +243,36 @@ faults! {
     ShortTags "tags compared on 32 bits" {
         const TAG_BITS: u32 = 32;
     }
-    MoreRelocations "1,025 relocations" {
-        const MOST_RELOCATIONS: usize = 1_025;
+    MoreRelocations "65,537 relocations" {
+        const MOST_RELOCATIONS: usize = 65_537;
     }
-    FewerRelocations "1,023 relocations at most" {
-        const MOST_RELOCATIONS: usize = 1_023;
+    FewerRelocations "65,535 relocations at most" {
+        const MOST_RELOCATIONS: usize = 65_535;
+    }
+    FewRelocations "1,024 relocations at most" {
+        const MOST_RELOCATIONS: usize = 1_024;
     }
     EmptyBacked "a table of 0 bytes must be backed" {
         const EMPTY_ANYWHERE: bool = false;
     }
-    MoreDescriptors "1,025 descriptors" {
-        const MOST_DESCRIPTORS: usize = 1_025;
+    MoreDescriptors "65,537 descriptors" {
+        const MOST_DESCRIPTORS: usize = 65_537;
     }
-    FewerDescriptors "1,023 descriptors at most" {
-        const MOST_DESCRIPTORS: usize = 1_023;
+    FewerDescriptors "65,535 descriptors at most" {
+        const MOST_DESCRIPTORS: usize = 65_535;
+    }
+    FewDescriptors "1,024 descriptors at most" {
+        const MOST_DESCRIPTORS: usize = 1_024;
+    }
+    LeftAtOld "9 at 1,024 for bytes left" {
+        fn left_at(_: u64) -> u64 {
+            1_024
+        }
+    }
+    LeftAtLast "9 at the last descriptor for bytes left" {
+        fn left_at(descriptors: u64) -> u64 {
+            descriptors - 1
+        }
     }
     TenthFree "any tenth byte" {
         fn tenth(byte: u8) -> bool {
@@ -484,11 +523,39 @@ faults! {
     OddFirst "an odd first word is taken" {
         const ODD_FIRST: bool = true;
     }
-    MorePlaces "1,025 entries and packed places" {
-        const MOST_PLACES: usize = 1_025;
+    MorePlaces "65,537 entries and packed places" {
+        const MOST_PLACES: usize = 65_537;
     }
-    FewerPlaces "1,023 entries and packed places at most" {
-        const MOST_PLACES: usize = 1_023;
+    FewerPlaces "65,535 entries and packed places at most" {
+        const MOST_PLACES: usize = 65_535;
+    }
+    FewPlaces "1,024 entries and packed places at most" {
+        const MOST_PLACES: usize = 1_024;
+    }
+    ShortCount "entries beside packed places counted in 16 bits" {
+        fn counted(relocations: &[u8]) -> usize {
+            usize::from((relocations.len() / ENTRY) as u16)
+        }
+    }
+    ShortWords "words counted in 16 bits" {
+        fn words(relocated: u64, _: u64) -> u64 {
+            u64::from(relocated as u16)
+        }
+    }
+    ShortPackedWords "packed words counted in 16 bits" {
+        fn packed_words(places: u64) -> u64 {
+            u64::from(places as u16)
+        }
+    }
+    ShortPlaceAt "11 of a packed word in 16 bits" {
+        fn place_at(relocations: &[[u8; ENTRY]], index: usize) -> u64 {
+            u64::from((relocations.len() + index) as u16)
+        }
+    }
+    ShortPassedAt "15 in 16 bits" {
+        fn passed_at(_: &[u8], index: usize) -> u64 {
+            u64::from(index as u16)
+        }
     }
     SkippedFree "skipped entries do not count beside packed places" {
         fn counted(relocations: &[u8]) -> usize {
@@ -617,6 +684,30 @@ faults! {
             place / 8 % 8_192
         }
     }
+    MapWrapsByMib "places 1 MiB apart share a mark" {
+        fn looked_at(place: u64) -> u64 {
+            place / 8 % (1 << 17)
+        }
+        fn marked_at(place: u64) -> u64 {
+            place / 8 % (1 << 17)
+        }
+    }
+    MapWrapsByFour "places 4 MiB apart share a mark" {
+        fn looked_at(place: u64) -> u64 {
+            place / 8 % (1 << 19)
+        }
+        fn marked_at(place: u64) -> u64 {
+            place / 8 % (1 << 19)
+        }
+    }
+    MapPassesSides "the places just before a MiB are not looked for" {
+        fn looked_at(place: u64) -> u64 {
+            match place % (1 << 20) {
+                0xf_fff8 => (place - 64) / 8,
+                _ => place / 8,
+            }
+        }
+    }
     MapHalfWords "places 256 bytes apart in a word of the map share a mark" {
         fn looked_at(place: u64) -> u64 {
             place / 512 * 64 + place / 8 % 32
@@ -709,6 +800,32 @@ untagged_faults! {
     }
     UntaggedLate "the plain loader has 15 after 11" {
         const UNTAGGED_PACKED_LATE: bool = true;
+    }
+    UntaggedFile "the plain loader takes files of 1,048,576 bytes at most" {
+        fn file_length(length: u64) -> bool {
+            (64..=1_048_576).contains(&length)
+        }
+    }
+    UntaggedLoads "the plain loader has PT_LOADs end at 1,048,576" {
+        const LOADS_END: u64 = 1_048_576;
+    }
+    UntaggedRelocations "the plain loader takes 1,024 relocations at most" {
+        const MOST_RELOCATIONS: usize = 1_024;
+    }
+    UntaggedPlaces "the plain loader takes 1,024 entries and packed places at most" {
+        const MOST_PLACES: usize = 1_024;
+    }
+    UntaggedMemory "the plain loader takes memories of 1,048,576 bytes at most" {
+        const MEMORY_BYTES: u64 = 1_048_576;
+    }
+    UntaggedMorePlaces "the plain loader takes 65,537 entries and packed places" {
+        const MOST_PLACES: usize = 65_537;
+    }
+    UntaggedMoreRelocations "the plain loader takes 65,537 relocations" {
+        const MOST_RELOCATIONS: usize = 65_537;
+    }
+    UntaggedMoreMemory "the plain loader takes a memory of 16,777,232 bytes" {
+        const MEMORY_BYTES: u64 = 16_777_232;
     }
     UntaggedSigned "the plain loader reads loaded bytes signed" {
         fn packed_address(bias: u64, loaded: u64) -> Option<u64> {

@@ -2,7 +2,7 @@
 
 use crate::bytes::{u16_at, u32_at, u64_at};
 use crate::rules::Rules;
-use crate::{refusal, Refusal, LARGEST};
+use crate::{refusal, Refusal};
 
 const IDENTIFICATION: [u8; 7] = [0x7f, b'E', b'L', b'F', 2, 1, 1];
 const DYN: u16 = 3;
@@ -195,7 +195,7 @@ fn good_load<R: Rules>(header: &Header, end_before: u64, length: u64) -> bool {
     header.memory_size != 0
         && header.file_size <= header.memory_size
         && R::in_file(header.offset, header.file_size, length)
-        && R::sum(header.address, header.memory_size) <= LARGEST
+        && R::sum(header.address, header.memory_size) <= R::LOADS_END
         && R::follows(header.address, end_before)
         && R::aligned(header.align, header.offset, header.address)
 }

@@ -30,9 +30,9 @@ pub use writer::write_table_by;
 use rules::Right;
 
 /// Largest file and largest lent memory, in bytes.
-pub const LARGEST: u64 = 1_048_576;
+pub const LARGEST: u64 = 16_777_216;
 /// Most RELA entries and packed places together, and most descriptors.
-pub const MOST: usize = 1_024;
+pub const MOST: usize = 65_536;
 /// Bytes of the smallest page: every bias is a multiple of it.
 pub const PAGE: u64 = 4_096;
 /// Bytes of a granule.

@@ -5,7 +5,7 @@ use crate::headers::{aligns, header_table, segments, Segments};
 use crate::packed::Places;
 use crate::relocations::{address, source, target_of, Tables, Walked};
 use crate::rules::Rules;
-use crate::{descriptors, packed, refusal, Facts, Refusal, GRANULE, LARGEST};
+use crate::{descriptors, packed, refusal, Facts, Refusal, GRANULE};
 
 /// A file that has passed checks 1 to 11 and 15.
 struct Image<'a> {
@@ -143,7 +143,7 @@ fn tagged(address: Option<u64>, source: Option<u64>, bias: u64, plane: &[u8]) ->
 pub fn lent_fits<R: Rules>(headers: &[u8], segments: &Segments, bias: u64, memory: u64) -> bool {
     memory.is_multiple_of(GRANULE)
         && R::memory_reaches(memory, segments.end())
-        && memory <= LARGEST
+        && memory <= R::MEMORY_BYTES
         && R::bias_fits(aligns::<R>(headers), bias)
         && R::run_fits(bias, memory)
 }

@@ -50,7 +50,7 @@ impl Random {
 
     /// Numbers at which sums and comparisons turn.
     pub fn edge(&mut self) -> u64 {
-        let near = [0u64, 1, 1 << 20, 1 << 31, 1 << 32, 1 << 48, 1 << 60, 1 << 61, 1 << 63];
+        let near = [0u64, 1, 1 << 24, 1 << 31, 1 << 32, 1 << 48, 1 << 60, 1 << 61, 1 << 63];
         self.pick(&near).wrapping_add(self.below(5)).wrapping_sub(2)
     }
 }

@@ -16,6 +16,9 @@ pub trait Rules {
         a.saturating_add(b)
     }
 
+    /// 4: where the addresses of PT_LOADs end.
+    const LOADS_END: u64 = LARGEST;
+
     /// 4: a PT_LOAD starts at or after the end of the one before.
     fn follows(address: u64, end_before: u64) -> bool {
         address >= end_before
@@ -121,6 +124,11 @@ pub trait Rules {
 
     /// 9: the most descriptors.
     const MOST_DESCRIPTORS: usize = MOST;
+
+    /// 9: the position of bytes left after so many.
+    fn left_at(descriptors: u64) -> u64 {
+        descriptors
+    }
 
     /// The tenth byte of a number.
     fn tenth(byte: u8) -> bool {
@@ -235,6 +243,9 @@ pub trait Rules {
     fn packed_words(places: u64) -> u64 {
         places
     }
+
+    /// 12: the most bytes of memory.
+    const MEMORY_BYTES: u64 = LARGEST;
 
     /// 12: memory length against the end of the last PT_LOAD.
     fn memory_reaches(length: u64, end: u64) -> bool {

@@ -62,12 +62,49 @@ impl<'a> Records<'a> {
         let count = self.u32();
         (0..count).map(|_| self.u64()).collect()
     }
+
+    /// Zeros with pieces over them. A piece is a unit put down a number of times, one copy after the
+    /// other; in copy k each word of the unit has k times its step added.
+    fn pieces(&mut self) -> Vec<u8> {
+        let mut out = vec![0; self.u32()];
+        for _ in 0..self.u32() {
+            let (start, length, count) = (self.u32(), self.u32(), self.u32());
+            let unit = self.bytes(length);
+            let steps: Vec<u64> = (0..length / 8).map(|_| self.u64()).collect();
+            let copies = out[start..][..length * count].chunks_exact_mut(length);
+            for (k, copy) in (0..).zip(copies) {
+                copy.copy_from_slice(unit);
+                for (word, (at, step)) in copy.chunks_exact_mut(8).zip((0..).step_by(8).zip(&steps))
+                {
+                    let moved = u64_at(unit, at).wrapping_add(step.wrapping_mul(k));
+                    word.copy_from_slice(&moved.to_le_bytes());
+                }
+            }
+        }
+        out
+    }
+
+    /// A load, whose file and choices are read by a function.
+    fn call(&mut self, bytes: fn(&mut Self) -> Vec<u8>) -> Call {
+        let call = Call {
+            file: bytes(self),
+            bias: self.u64(),
+            memory_length: self.u32(),
+            plane_length: self.u32(),
+            choices: bytes(self),
+        };
+        assert_eq!(self.u32(), 0);
+        call
+    }
 }
 
 /// The sets of loads.
-pub const LOADS: [&str; 4] = ["load", "level-02/load", "level-03/load", "level-04/load"];
+pub const LOADS: [&str; 5] =
+    ["load", "level-02/load", "level-03/load", "level-04/load", "level-05/load"];
+/// The set of large loads, whose records are packed.
+pub const LARGE: &str = "level-05/large";
 /// The folders of those that the untagged loader has answers for.
-pub const UNTAGGED: [&str; 3] = ["level-02", "level-03", "level-04"];
+pub const UNTAGGED: [&str; 4] = ["level-02", "level-03", "level-04", "level-05"];
 
 pub fn loads(set: &str) -> Vec<LoadVector> {
     let bytes = read(&format!("{set}.cases"));
@@ -75,20 +112,22 @@ pub fn loads(set: &str) -> Vec<LoadVector> {
     let names = lines(&format!("{set}.names"));
     let named = names.into_iter().zip(lines(&format!("{set}.answers")));
     let vectors = named
-        .map(|(name, answer)| {
-            let call = Call {
-                file: records.counted(),
-                bias: records.u64(),
-                memory_length: records.u32(),
-                plane_length: records.u32(),
-                choices: records.counted(),
-            };
-            assert_eq!(records.u32(), 0);
-            LoadVector { name, call, answer }
-        })
+        .map(|(name, answer)| LoadVector { name, call: records.call(Records::counted), answer })
         .collect();
     assert!(records.0.is_empty());
     vectors
+}
+
+/// The large loads one by one: together they would fill hundreds of megabytes.
+pub fn each_large(mut each: impl FnMut(usize, LoadVector)) {
+    let bytes = read(&format!("{LARGE}.cases"));
+    let mut records = Records(&bytes);
+    let names = lines(&format!("{LARGE}.names"));
+    let named = names.into_iter().zip(lines(&format!("{LARGE}.answers")));
+    for (i, (name, answer)) in named.enumerate() {
+        each(i, LoadVector { name, call: records.call(Records::pieces), answer });
+    }
+    assert!(records.0.is_empty());
 }
 
 /// The loads of a folder with the untagged loader's answers in place of the loads'.

@@ -1,4 +1,4 @@
-//! The bench sheet of document 01 with what request 2 adds, and its table written.
+//! The bench sheet of document 01 with what requests 2 and 5 say, and its table written.
 
 use loader::answers::{packed_facts, Call};
 use loader::{examine, load, load_untagged, step, write_table};
@@ -183,4 +183,73 @@ fn arguments() {
     assert_eq!(word(&call(BIAS, &[3, 9, 9], 0, 0)), refused(14, 2));
     assert!(word(&call(BIAS, &[3, 3, 5], 0, 0)).is_ok());
     assert_eq!(word(&call(0x4000_0800, &TAGS, 0, 0)), refused(12, 0));
+}
+
+/// The module with so many relocations, in a file and a memory long enough for them.
+fn long(relocations: usize) -> Call {
+    let places = 0x200 + 24 * relocations;
+    let size = (places + 8 * relocations).next_multiple_of(0x1000);
+    let mut file = module(&TABLE, &[], 0);
+    file.resize(size, 0);
+    put(&mut file, 64 + 32, &[size as u64, size as u64]);
+    put(&mut file, 0x118, &[24 * relocations as u64]);
+    for i in 0..relocations {
+        put(&mut file, 0x200 + 24 * i, &[(places + 8 * i) as u64, RELATIVE, 0x1040]);
+    }
+    Call { file, bias: BIAS, memory_length: size, plane_length: size / 16, choices: TAGS.to_vec() }
+}
+
+/// What the load and the untagged loader answer.
+fn answers(call: &Call) -> [Result<u64, Refusal>; 2] {
+    let mut memory = vec![0xee; call.memory_length];
+    let mut plane = vec![0xee; call.plane_length];
+    let facts = load(&call.file, call.bias, &mut memory, &mut plane, &call.choices);
+    let untagged = load_untagged(&call.file, call.bias, call.memory_length as u64);
+    [facts.map(|facts| facts.words), untagged.map(|untagged| untagged.places.len() as u64)]
+}
+
+#[test]
+fn limits() {
+    assert_eq!(answers(&long(1_025)), [Ok(1_025); 2]);
+    let longest = long(65_536);
+    assert_eq!(answers(&longest), [Ok(65_536); 2]);
+    let mut memory = vec![0; longest.memory_length];
+    let mut plane = vec![0; longest.plane_length];
+    load(&longest.file, BIAS, &mut memory, &mut plane, &TAGS).unwrap();
+    let places = memory[0x200 + 24 * 65_536..].chunks_exact(8).take(65_536);
+    assert!(places.into_iter().all(|word| word == 0x0900_0000_4000_1040u64.to_le_bytes()));
+    assert_eq!(answers(&long(65_537)), [refused(7, 0); 2]);
+
+    // Memory, and the addresses of the PT_LOAD: 16,777,216.
+    let mut call = call(BIAS, &TAGS, 0x10c0, 0);
+    (call.memory_length, call.plane_length) = (1 << 24, 1 << 20);
+    assert_eq!(answers(&call), [Ok(1); 2]);
+    put(&mut call.file, 64 + 40, &[1 << 24]);
+    assert_eq!(answers(&call), [Ok(1); 2]);
+    put(&mut call.file, 64 + 40, &[(1 << 24) + 1]);
+    assert_eq!(answers(&call), [refused(4, 0); 2]);
+    put(&mut call.file, 64 + 40, &[0x2000]);
+    (call.memory_length, call.plane_length) = ((1 << 24) + 16, (1 << 20) + 1);
+    assert_eq!(answers(&call), [refused(12, 0); 2]);
+    // The file.
+    (call.memory_length, call.plane_length) = (0x2000, 0x200);
+    call.file.resize(1 << 24, 0);
+    assert_eq!(answers(&call), [Ok(1); 2]);
+    call.file.push(0);
+    assert_eq!(answers(&call), [refused(1, 0); 2]);
+
+    // Globals of a granule each, one after the other.
+    let globals = |count: usize| {
+        let mut call = long(65_536);
+        put(&mut call.file, 0x138, &[0x1000, 0x7000_000f, count as u64]);
+        put(&mut call.file, 0x118, &[0]);
+        call.file[0x1000..][..count].fill(1);
+        call.choices = (0..count).map(|i| (i % 2 + 1) as u8).collect();
+        let mut memory = vec![0; call.memory_length];
+        let mut plane = vec![0; call.plane_length];
+        load(&call.file, BIAS, &mut memory, &mut plane, &call.choices).map(|facts| facts.globals)
+    };
+    assert_eq!(globals(1_025), Ok(1_025));
+    assert_eq!(globals(65_536), Ok(65_536));
+    assert_eq!(globals(65_537), refused(9, 65_536));
 }

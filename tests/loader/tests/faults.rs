@@ -3,7 +3,7 @@
 use loader::answers::{Call, Loader, RIGHT};
 use loader::faults::{FAULTS, UNTAGGED_FAULTS, WRITER_FAULTS};
 use loader::generate::list::write_case;
-use loader::generate::{cases, count, step_case, SEED};
+use loader::generate::{case, count, step_case, Case, SEED};
 use loader::load_untagged;
 use std::panic::{catch_unwind, AssertUnwindSafe};
 
@@ -18,9 +18,13 @@ impl Caught {
         Caught { counts: vec![(0, 0, None); names.len()], names }
     }
 
-    /// What each wrong loader does, by its index, beside what the right one did.
-    fn case<T: PartialEq>(&mut self, name: &str, right: T, by: impl Fn(usize) -> T) {
+    /// What each wrong loader does, by its index, beside what the right one did. A large case is only for
+    /// those that no other case told.
+    fn case<T: PartialEq>(&mut self, name: &str, large: bool, right: T, by: impl Fn(usize) -> T) {
         for (i, (times, stops, first)) in self.counts.iter_mut().enumerate() {
+            if large && first.is_some() {
+                continue;
+            }
             // A wrong loader that stops is told apart as well, but counted on its own.
             match catch_unwind(AssertUnwindSafe(|| by(i))) {
                 Ok(wrong) if wrong == right => continue,
@@ -50,18 +54,32 @@ fn each_is_caught() {
     let mut untagged = Caught::new(UNTAGGED_FAULTS.iter().map(|f| f.name).collect());
     let mut writes = Caught::new(WRITER_FAULTS.iter().map(|f| f.name).collect());
     std::panic::set_hook(Box::new(|_| {}));
-    for (i, case) in cases(SEED, total).enumerate() {
+    let mut each = |i: u64, case: &Case, large: bool| {
         let name = format!("case {i}, {}", case.name);
-        loads.case(&name, RIGHT.outcome(&case.call), |i| FAULTS[i].loader.outcome(&case.call));
         let Call { file, bias, memory_length, .. } = &case.call;
+        loads.case(&name, large, RIGHT.outcome(&case.call), |i| {
+            FAULTS[i].loader.outcome(&case.call)
+        });
         let length = *memory_length as u64;
         let right = load_untagged(file, *bias, length);
-        untagged.case(&name, right, |i| (UNTAGGED_FAULTS[i].load)(file, *bias, length));
+        untagged.case(&name, large, right, |i| (UNTAGGED_FAULTS[i].load)(file, *bias, length));
+    };
+    let mut large_cases = Vec::new();
+    for i in 0..total {
+        let case = case(SEED, i);
+        if case.call.file.len().max(case.call.memory_length) > 1 << 20 {
+            large_cases.push(i);
+        } else {
+            each(i, &case, false);
+        }
+    }
+    for i in large_cases {
+        each(i, &case(SEED, i), true);
     }
     for i in 0..total {
         let case = write_case(SEED, i);
         let name = format!("list {i}, {}", case.name);
-        writes.case(&name, RIGHT.written(&case.list), |i| {
+        writes.case(&name, false, RIGHT.written(&case.list), |i| {
             WRITER_FAULTS[i].loader.written(&case.list)
         });
     }

@@ -50,7 +50,7 @@ impl Aligns {
         let largest = loads.iter().map(|l| l[2]).max().unwrap();
         let (memory, end) = (call.memory_length as u64, loads.last().map(|l| l[0] + l[1]).unwrap());
         let alone = memory % 16 == 0
-            && (end..=1 << 20).contains(&memory)
+            && (end..=1 << 24).contains(&memory)
             && call.plane_length as u64 == memory / 16
             && call.bias.is_multiple_of(4096)
             && call.bias <= (1 << 48) - memory;

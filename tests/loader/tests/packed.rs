@@ -5,13 +5,22 @@ use loader::answers::{packed, Call, Loader, RIGHT};
 use loader::random::Random;
 use loader::{examine, load_untagged, Facts, Refusal};
 
-const LENGTH: usize = 0x3000;
+const LENGTH: usize = 0x5400;
+/// Bytes of the first PT_LOAD that are in the file, and where those of the last one begin.
 const FILE: usize = 0x1804;
-/// PT_LOADs: writable from 0, with zeros from 0x1804 on; read-only; writable, of zeros alone.
-const LOADS: [(u64, u64, u64, u64); 3] =
-    [(6, 0, FILE as u64, 0x2000), (4, 0x2000, 0x100, 0x800), (6, 0x2800, 0, 0x800)];
+const LAST: usize = 0x1808;
+/// PT_LOADs, as flags, offset, address, bytes in the file and in memory: writable, with zeros from 0x1804
+/// on; read-only; writable, of zeros alone; read-only, for the packed table.
+const LOADS: [(u64, usize, u64, u64, u64); 4] = [
+    (6, 0, 0, FILE as u64, 0x2000),
+    (4, 0, 0x2000, 0x100, 0x800),
+    (6, 0, 0x2800, 0, 0x800),
+    (4, LAST, PACKED, 0x2400, 0x2400),
+];
 const RELA: usize = 0x300;
-const PACKED: usize = 0x400;
+const PACKED: u64 = 0x3000;
+/// Most RELA entries and packed places together.
+const MOST: u64 = 65_536;
 /// The globals of the bench sheet and their tags: (start, end, tag).
 const TABLE: [u8; 5] = [0x82, 0x10, 0x10, 0x07, 0x01];
 const GLOBALS: [(u64, u64, u8); 3] =
@@ -31,24 +40,24 @@ struct Parts {
 }
 
 fn file(parts: &Parts) -> Vec<u8> {
-    let mut file = vec![0; FILE];
+    let mut file = vec![0; LAST + 0x2400];
     file[..7].copy_from_slice(&[0x7f, 0x45, 0x4c, 0x46, 2, 1, 1]);
     put(&mut file, 16, &[3 | 183 << 16 | 1 << 32, 0, 64]);
-    put(&mut file, 48, &[56 << 48, 4]);
-    for (i, (flags, address, file_size, memory_size)) in LOADS.into_iter().enumerate() {
-        let header = [1 | flags << 32, 0, address, 0, file_size, memory_size, 1];
+    put(&mut file, 48, &[56 << 48, 5]);
+    for (i, (flags, offset, address, file_size, memory_size)) in LOADS.into_iter().enumerate() {
+        let header = [1 | flags << 32, offset as u64, address, 0, file_size, memory_size, 1];
         put(&mut file, 64 + 56 * i, &header);
     }
-    put(&mut file, 64 + 56 * 3, &[2 | 6 << 32, 0, 0x180, 0, 144, 144, 8]);
+    put(&mut file, 64 + 56 * 4, &[2 | 6 << 32, 0, 0x180, 0, 144, 144, 8]);
     let sizes = [24 * parts.entries.len() as u64, 8 * parts.words.len() as u64];
     put(&mut file, 0x180, &[7, RELA as u64, 8, sizes[0], 9, 24]);
-    put(&mut file, 0x1b0, &[36, PACKED as u64, 35, sizes[1], 37, 8]);
+    put(&mut file, 0x1b0, &[36, PACKED, 35, sizes[1], 37, 8]);
     put(&mut file, 0x1e0, &[0x7000_000d, 0x280, 0x7000_000f, TABLE.len() as u64, 0, 0]);
     file[0x280..][..TABLE.len()].copy_from_slice(&TABLE);
     for (i, &(place, kind, addend)) in parts.entries.iter().enumerate() {
         put(&mut file, RELA + 24 * i, &[place, kind, addend]);
     }
-    put(&mut file, PACKED, &parts.words);
+    put(&mut file, LAST, &parts.words);
     for &(place, word) in &parts.loaded {
         let size = FILE.saturating_sub(place as usize).min(8);
         file[place as usize..][..size].copy_from_slice(&word.to_le_bytes()[..size]);
@@ -59,9 +68,9 @@ fn file(parts: &Parts) -> Vec<u8> {
 /// The address space before relocation.
 fn loaded(file: &[u8]) -> Vec<u8> {
     let mut memory = vec![0; LENGTH];
-    for (_, address, file_size, _) in LOADS {
+    for (_, offset, address, file_size, _) in LOADS {
         let size = file_size as usize;
-        memory[address as usize..][..size].copy_from_slice(&file[..size]);
+        memory[address as usize..][..size].copy_from_slice(&file[offset..][..size]);
     }
     memory
 }
@@ -96,7 +105,7 @@ fn by_words(parts: &Parts, bias: u64) -> Result<Written, (u8, u64)> {
             }
             run = Some(start + 504);
         }
-        if total > 1024 {
+        if total > MOST {
             return Err((15, position));
         }
     }
@@ -110,7 +119,7 @@ fn by_words(parts: &Parts, bias: u64) -> Result<Written, (u8, u64)> {
     }
     all.extend(places.into_iter().map(|(i, place)| (entries + i, place, None)));
     for (i, &(position, place, _)) in all.iter().enumerate() {
-        let inside = LOADS.iter().any(|&(flags, address, _, size)| {
+        let inside = LOADS.iter().any(|&(flags, _, address, _, size)| {
             flags & 2 != 0
                 && u128::from(address) <= place
                 && place + 8 <= u128::from(address + size)
@@ -139,7 +148,7 @@ fn by_words(parts: &Parts, bias: u64) -> Result<Written, (u8, u64)> {
 fn parts(r: &mut Random) -> Parts {
     let slot = |r: &mut Random| match r.below(12) {
         0 => r.pick(&[0x1800, 0x1ff8, 0x2800, 0x2ff8, 0x1808]),
-        1 => r.pick(&[0x2000, 0x27f8, 0x3000, 0x1ffc, 0x1802, 4, 0xffff_ffff_ffff_fff8]),
+        1 => r.pick(&[0x2000, 0x27f8, 0x3000, 0x5400, 0x1ffc, 0x1802, 4, 0u64.wrapping_sub(8)]),
         _ => 0x800 + 8 * r.below(0x200),
     };
     let target = |r: &mut Random| match r.below(8) {
@@ -164,12 +173,20 @@ fn parts(r: &mut Random) -> Parts {
             *first = slot(r);
         }
     }
-    let entries = (0..r.below(6))
+    let entries: Vec<(u64, u64, u64)> = (0..r.below(6))
         .map(|_| match r.below(4) {
             0 => (slot(r), 0, r.word()),
             _ => (slot(r), 1027, target(r)),
         })
         .collect();
+    if r.once_in(40) {
+        // As many places as there may be, a few more or a few fewer, and words after them.
+        words = [vec![slot(r)], vec![u64::MAX; MOST as usize / 63 - 1]].concat();
+        let left = MOST as usize - entries.len() - 1 - 63 * (words.len() - 1);
+        let bits = left + 2 - r.index(5);
+        words.extend([u64::MAX >> (63 - bits.min(63)), u64::MAX >> (63 - (bits - bits.min(63)))]);
+        words.extend(vec![1; r.index(3)]);
+    }
     // The first writable PT_LOAD's places all hold a word whose address is in range, as a rule.
     let places = (0..0x200).map(|i| 0x800 + 8 * i).chain([0x1800]);
     let mut loaded: Vec<(u64, u64)> = places.map(|place| (place, target(r))).collect();
@@ -187,7 +204,7 @@ fn random_words() {
     let mut places = 0;
     for i in 0..40_000 {
         let parts = parts(&mut r);
-        let bias = r.pick(&[0, 0x4000_0000, 4096, (1 << 48) - 0x3000]);
+        let bias = r.pick(&[0, 0x4000_0000, 4096, (1 << 48) - 0x6000]);
         let call = Call {
             file: file(&parts),
             bias,

@@ -1,9 +1,10 @@
-//! Long tables with places in any order, against a search of all pairs.
+//! Long tables with places in any order, against a search of all pairs or a set of all places.
 
 use loader::bench::{entries, ORDERS};
 use loader::ffi::proved;
 use loader::random::Random;
-use loader::{examine, Refusal};
+use loader::{examine, Refusal, MOST};
+use std::collections::{BTreeSet, HashSet};
 
 /// Where the RELA table stands in a file, by its dynamic entries behind two program headers.
 fn table_at(file: &[u8]) -> usize {
@@ -37,6 +38,15 @@ fn by_pairs(places: &[u64], skipped: &[usize]) -> Result<u64, Refusal> {
     }
 }
 
+fn by_set(places: &[u64], skipped: &[usize]) -> Result<u64, Refusal> {
+    let mut met = HashSet::new();
+    let live = (0..places.len()).filter(|i| !skipped.contains(i));
+    match live.into_iter().find(|&i| !met.insert(places[i])) {
+        Some(i) => Err(Refusal { number: 11, position: i as u64 }),
+        None => Ok(met.len() as u64),
+    }
+}
+
 #[test]
 fn as_by_pairs() {
     let mut r = Random::new(11);
@@ -56,6 +66,7 @@ fn as_by_pairs() {
         }
         let skipped: Vec<usize> = (0..r.below(4)).map(|_| r.index(places.len())).collect();
         let expected = by_pairs(&places, &skipped);
+        assert_eq!(by_set(&places, &skipped), expected, "case {i}");
         assert_eq!(answer(size, &places, &skipped), expected, "case {i}");
         match expected {
             Ok(_) => taken += 1,
@@ -66,19 +77,112 @@ fn as_by_pairs() {
     assert!(taken > 300 && refused > 300, "{taken} taken, {refused} refused");
 }
 
+/// So many distinct places from the lowest one on: most of them near a multiple of 1 MiB or of 4 MiB from
+/// it, on either side.
+fn clustered(r: &mut Random, size: u64, lowest: u64, count: usize) -> Vec<u64> {
+    let near = r.pick(&[3, 20, 700]);
+    let mut places = BTreeSet::from([lowest]);
+    while places.len() < count {
+        let step = r.pick(&[1 << 20, 1 << 20, 4 << 20]);
+        let place = match r.below(5) {
+            0 => lowest + 8 * r.below((size - lowest) / 8),
+            // A cluster is full after some time.
+            _ if places.len() > 40 * near as usize => 8 * r.below(size / 8),
+            _ => {
+                let middle = lowest + step * r.below(size / step + 1);
+                (middle + 8 * r.below(near)).wrapping_sub(8 * r.below(near))
+            }
+        };
+        if (lowest..=size - 8).contains(&place) {
+            places.insert(place);
+        }
+    }
+    places.into_iter().collect()
+}
+
+/// Memories of several MiB.
+#[test]
+fn as_by_set() {
+    let mut r = Random::new(24);
+    let (mut taken, mut refused) = (0, 0);
+    for i in 0..600 {
+        let size =
+            r.pick(&[2 << 20, 4 << 20, 5 << 20, 8 << 20, 11 << 20, (16 << 20) - 8, 16 << 20]);
+        let lowest =
+            r.pick(&[0, 8, 504, 4_088, (1 << 20) - 8, 1 << 20]) + 8 * r.below(2) * r.below(9_999);
+        let (size, count) = match i % 60 {
+            0 => (16 << 20, MOST),
+            _ => (size, r.pick(&[2, 65, 300, 1_024, 4_096])),
+        };
+        let mut places = clustered(&mut r, size, lowest, count);
+        match r.below(4) {
+            0 => {}
+            1 => places.reverse(),
+            _ => r.shuffle(&mut places),
+        }
+        // A few places as another's, or beside it, or some MiB from it.
+        for _ in 0..r.below(4) {
+            let (from, to) = (r.index(count), r.index(count));
+            let off = r.pick(&[0, 0, 0, 8, 512, 1 << 17, 1 << 20, 4 << 20, (4 << 20) + 8]);
+            places[to] = (places[from] + off) % size;
+        }
+        if r.once_in(4) {
+            places[count - 1] = places[r.index(count)];
+        }
+        let skipped: Vec<usize> = (0..r.below(4)).map(|_| r.index(count)).collect();
+        let expected = by_set(&places, &skipped);
+        assert_eq!(answer(size as usize, &places, &skipped), expected, "case {i}");
+        match expected {
+            Ok(_) => taken += 1,
+            Err(_) => refused += 1,
+        }
+    }
+    println!("{taken} taken, {refused} refused");
+    assert!(taken > 150 && refused > 150, "{taken} taken, {refused} refused");
+}
+
+/// On both sides of each MiB from the lowest place: the last entry repeats each of these places once, and
+/// is beside each once.
+#[test]
+fn sides_of_each_mib() {
+    let size = 16 << 20;
+    for lowest in [0, 0x1238, 0x9_fff8] {
+        let mut r = Random::new(lowest);
+        let middles = (0..=16).map(|i| lowest + (i << 20));
+        let sides = middles.flat_map(|middle| [middle.wrapping_sub(16), middle, middle + 16]);
+        let mut places: Vec<u64> = sides.filter(|p| (lowest..size).contains(p)).collect();
+        r.shuffle(&mut places);
+        let count = places.len() as u64;
+        places.push(0);
+        for i in 0..places.len() - 1 {
+            let refusal = Refusal { number: 11, position: count };
+            *places.last_mut().unwrap() = places[i];
+            assert_eq!(answer(size as usize, &places, &[]), Err(refusal), "{:#x}", places[i]);
+            for beside in [places[i].wrapping_sub(8), places[i] + 8] {
+                if (lowest..size).contains(&beside) {
+                    *places.last_mut().unwrap() = beside;
+                    assert_eq!(answer(size as usize, &places, &[]), Ok(count + 1), "{beside:#x}");
+                }
+            }
+        }
+    }
+}
+
 /// The orders have no repeat, and a repeat at either end is found.
 #[test]
 fn orders() {
+    let sizes = [(1 << 20, 2), (1 << 20, 256), (1 << 20, 1_000), (1 << 20, 1_024)];
+    let large = [(16 << 20, 1_024), (16 << 20, MOST as u64)];
     for (name, order) in ORDERS {
-        for count in [2, 256, 1_000, 1_024] {
-            let mut places = order(1 << 20, count);
+        for (size, count) in sizes.into_iter().chain(large) {
+            let mut places = order(size as u64, count);
             assert_eq!(places.len() as u64, count, "{name}");
-            assert_eq!(answer(1 << 20, &places, &[]), Ok(count), "{name}");
+            assert_eq!(answer(size, &places, &[]), Ok(count), "{name}");
             let last = places.len() - 1;
             places[last] = places[0];
             let refusal = Refusal { number: 11, position: count - 1 };
-            assert_eq!(answer(1 << 20, &places, &[]), Err(refusal), "{name}");
-            assert_eq!(answer(1 << 20, &places, &[0]), Ok(count - 1), "{name}");
+            assert_eq!(answer(size, &places, &[]), Err(refusal), "{name}");
+            assert_eq!(answer(size, &places, &[0]), Ok(count - 1), "{name}");
         }
     }
 }

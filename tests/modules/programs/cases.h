@@ -20,12 +20,16 @@ static int get(uint64_t *value, int bytes)
 /* CRC-32 as zlib computes it. */
 static uint32_t crc(const uint8_t *bytes, size_t length)
 {
-    uint32_t c = 0xffffffff;
-    for (size_t i = 0; i < length; i++) {
-        c ^= bytes[i];
+    static uint32_t table[256];
+    for (uint32_t i = 0; i < 256 && !table[255]; i++) {
+        uint32_t c = i;
         for (int bit = 0; bit < 8; bit++)
             c = c >> 1 ^ (c & 1 ? 0xedb88320 : 0);
+        table[i] = c;
     }
+    uint32_t c = 0xffffffff;
+    for (size_t i = 0; i < length; i++)
+        c = c >> 8 ^ table[(c ^ bytes[i]) & 0xff];
     return ~c;
 }
 

@@ -5,7 +5,7 @@
 #include <stdlib.h>
 #include <sys/mman.h>
 
-#define ROOM (4 << 20)
+#define ROOM (17 << 20) /* more than the largest file and the largest memory */
 #define PAGE 65536
 
 static uint8_t *guarded_end(void)

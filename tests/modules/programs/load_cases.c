@@ -1,8 +1,9 @@
-/* load_cases < load.cases: a line a case, in the form of load.answers (tests/vectors). A read or write past the end of a
- * lent buffer ends the program. */
+/* load_cases < load.cases: a line a case, in the form of load.answers (tests/vectors). load_cases packed < large.cases: the
+ * same, where file and choices are packed. A read or write past the end of a lent buffer ends the program. */
 #define _DEFAULT_SOURCE
 #include <stdio.h>
 #include <stdlib.h>
+#include <string.h>
 #include "cases.h"
 #include "guard.h"
 #include "hagolstan.h"
@@ -13,14 +14,48 @@ static int get_bytes(uint8_t *end, uint64_t *length)
     return get(length, 4) && *length <= ROOM && fread(end - *length, 1, *length, stdin) == *length;
 }
 
-int main(void)
+/* Reads a length and pieces, which are put over as many zeros, which end at end. A piece is a unit put down count times, one
+ * copy after the other; in copy k each eight bytes of the unit, as a number, have k times their step added. */
+static int get_pieces(uint8_t *end, uint64_t *length)
 {
+    static uint8_t unit[1 << 16];
+    static uint64_t steps[sizeof unit / 8];
+    uint64_t pieces, start, bytes, count;
+    if (!get(length, 4) || *length > ROOM || !get(&pieces, 4))
+        return 0;
+    memset(end - *length, 0, *length);
+    while (pieces--) {
+        if (!get(&start, 4) || !get(&bytes, 4) || !get(&count, 4) || bytes > sizeof unit || start + bytes * count > *length ||
+            fread(unit, 1, bytes, stdin) != bytes)
+            return 0;
+        for (size_t i = 0; i < bytes / 8; i++)
+            if (!get(&steps[i], 8))
+                return 0;
+        for (uint64_t k = 0; k < count; k++) {
+            uint8_t *copy = end - *length + start + k * bytes;
+            memcpy(copy, unit, bytes);
+            for (size_t i = 0; i < bytes / 8; i++) {
+                uint64_t word = k * steps[i];
+                for (int j = 0; j < 8; j++)
+                    word += (uint64_t)unit[8 * i + j] << (8 * j);
+                for (int j = 0; j < 8; j++)
+                    copy[8 * i + j] = (uint8_t)(word >> (8 * j));
+            }
+        }
+    }
+    return 1;
+}
+
+int main(int count, char **words)
+{
+    int packed = count == 2 && strcmp(words[1], "packed") == 0;
+    int (*get_part)(uint8_t *, uint64_t *) = packed ? get_pieces : get_bytes;
     static const char *const modes[] = {"absent", "sync", "async"}, *const switches[] = {"absent", "off", "on"};
     uint8_t *file_end = guarded_end(), *memory_end = guarded_end(), *plane_end = guarded_end(), *choices_end = guarded_end();
     uint64_t file_length, bias, memory_length, plane_length, choices_length, last;
-    while (get_bytes(file_end, &file_length)) {
+    while (get_part(file_end, &file_length)) {
         if (!get(&bias, 8) || !get(&memory_length, 4) || !get(&plane_length, 4) || memory_length > ROOM ||
-            plane_length > ROOM || !get_bytes(choices_end, &choices_length) || !get(&last, 4))
+            plane_length > ROOM || !get_part(choices_end, &choices_length) || !get(&last, 4))
             return 2;
         uint8_t *file = file_end - file_length, *memory = memory_end - memory_length;
         uint8_t *plane = plane_end - plane_length, *choices = choices_end - choices_length;

@@ -16,7 +16,7 @@
 #define TAGGING 55       /* PR_SET_TAGGED_ADDR_CTRL */
 #define SYNCHRONOUS (1 | 1 << 1 | 0xfffeul << 3)
 
-static uint8_t file[1 << 20], plane[LENGTH / 16], choices[1024];
+static uint8_t file[1 << 24], plane[LENGTH / 16], choices[1 << 16];
 static sigjmp_buf back;
 static volatile int fault;
 

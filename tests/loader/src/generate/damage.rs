@@ -162,13 +162,15 @@ fn too_many(m: &mut Module, words: Vec<u64>) -> Option<Expected> {
 /// A place and bitmaps of so many bits each, until they are too many, at times with more after.
 fn bitmaps(m: &mut Module, r: &mut Random, place: u64, bits: u32) -> Option<Expected> {
     let most = (m.packed_room.size / 8) as usize;
-    let mut words = vec![place];
-    while words.len() < most && passing(m.relocations.len(), &words).is_none() {
+    let (mut words, mut total) = (vec![place], m.relocations.len() + 1);
+    given(total + bits as usize * most > MOST)?;
+    while words.len() < most && total <= MOST {
         let mut word = u64::MAX;
         while word.count_ones() > bits + 1 {
             word &= !(2 << r.below(63));
         }
         words.push(word);
+        total += named(word);
     }
     words.extend(vec![u64::MAX; r.index(3).min(most.saturating_sub(words.len()))]);
     too_many(m, words)
@@ -368,12 +370,12 @@ fn highest_bias(m: &Module) -> u64 {
     (ADDRESS_END - m.memory) / m.bias_unit() * m.bias_unit()
 }
 
-/// The length of a memory whose bias fits where it ends at 2^48.
+/// The length of a memory, below 1 MiB, whose bias fits where it ends at 2^48.
 fn high_memory(m: &Module, r: &mut Random) -> Option<u64> {
     let unit = m.bias_unit();
-    given(unit <= LARGEST)?;
+    given(unit <= 1 << 20)?;
     let memory = (m.last_end().div_ceil(unit) + r.below(3)) * unit;
-    given(memory < LARGEST)?;
+    given(memory < 1 << 20)?;
     Some(memory)
 }
 
@@ -560,19 +562,9 @@ pub const DAMAGES: &[Damage] = &[
             (h.offset, h.file_size) = (length + 1, 0);
         })
     }),
-    damage(4, "ends at the limit", |m, _| {
-        spare(m, |h, _, _| {
-            h.address = LARGEST.wrapping_sub(h.memory_size);
-        })
-    }),
     damage(4, "ends past the limit", |m, _| {
         bad_spare(m, |h, _, _| {
             h.address = LARGEST.wrapping_sub(h.memory_size).wrapping_add(1);
-        })
-    }),
-    damage(4, "grows to the limit", |m, _| {
-        spare(m, |h, _, _| {
-            h.memory_size = LARGEST.wrapping_sub(h.address);
         })
     }),
     damage(4, "grows past the limit", |m, r| {
@@ -712,7 +704,9 @@ pub const DAMAGES: &[Damage] = &[
         Some(Taken)
     }),
     damage(6, "SYMENT", |m, r| value(m, r, SYMENT, &[0, 23, 25, 48, 24 + (1 << 32)])),
-    damage(6, "RELASZ", |m, r| value(m, r, RELASZ, &[1, 8, 23, 25, 24 * 1024 + 1, u64::MAX])),
+    damage(6, "RELASZ", |m, r| {
+        value(m, r, RELASZ, &[1, 8, 23, 25, 24 * MOST as u64 + 1, u64::MAX])
+    }),
     damage(6, "RELAENT", |m, r| value(m, r, RELAENT, &[0, 16, 23, 25, 24 + (1 << 32)])),
     damage(6, "MODE", |m, r| value(m, r, MODE, &[2, 3, 1 << 32, u64::MAX])),
     damage(6, "HEAP", |m, r| value(m, r, HEAP, &[2, 3, 1 << 32, u64::MAX])),
@@ -761,7 +755,9 @@ pub const DAMAGES: &[Damage] = &[
         refused(6, m.null())
     }),
     damage(6, "globals partner", |m, r| lost(m, r, &[GLOBALS, GLOBALSSZ])),
-    damage(6, "RELRSZ", |m, r| value(m, r, RELRSZ, &[1, 4, 7, 9, 12, 8 * 1024 + 4, u64::MAX])),
+    damage(6, "RELRSZ", |m, r| {
+        value(m, r, RELRSZ, &[1, 4, 7, 9, 12, 8 * MOST as u64 + 4, u64::MAX])
+    }),
     damage(6, "RELRENT", |m, r| value(m, r, RELRENT, &[0, 4, 7, 9, 16, 24, 8 + (1 << 32)])),
     damage(6, "RELR partner", |m, r| lost(m, r, &[RELR, RELRSZ, RELRENT])),
     damage(6, "two RELR partners", |m, r| {
@@ -897,7 +893,7 @@ pub const DAMAGES: &[Damage] = &[
     }),
     damage(15, "too many by one", |m, r| {
         // The last bitmap has the bit that goes past.
-        given(m.packed_room.size >= 8 * 20)?;
+        given(m.packed_room.size >= 8 * (MOST as u64 / 63 + 9))?;
         let free = (MOST - 1).checked_sub(m.relocations.len())?;
         let mut words = vec![*m.packed.first()?];
         words.extend(vec![u64::MAX; free / 63]);
@@ -911,7 +907,8 @@ pub const DAMAGES: &[Damage] = &[
         too_many(m, words)
     }),
     damage(15, "a bitmap first, and too many", |m, r| {
-        given(m.put_packed(vec![u64::MAX; r.from(17, 30) as usize]))?;
+        let count = MOST / 63 + 1 + r.index(50);
+        given(m.put_packed(vec![u64::MAX; count]))?;
         refused(15, 0)
     }),
     damage(15, "and a descriptor cut", |m, r| {
@@ -1324,8 +1321,6 @@ pub const DAMAGES: &[Damage] = &[
         let memory = m.last_end().div_ceil(16) * 16;
         sized(m, memory, Taken)
     }),
-    damage(12, "memory the largest", |m, _| sized(m, LARGEST, Taken)),
-    damage(12, "memory over the largest", |m, _| sized(m, LARGEST + 16, FIT)),
     damage(12, "memory not a multiple", |m, r| {
         let memory = m.memory + r.from(1, 15);
         sized(m, memory, FIT)
@@ -1555,5 +1550,25 @@ pub const DAMAGES: &[Damage] = &[
         *m.choices.get_mut(a)? = 0;
         *m.choices.get_mut(b)? = 16;
         refused(14, a.min(b))
+    }),
+];
+
+/// Damages that need the largest memory.
+pub const LARGE_DAMAGES: &[Damage] = &[
+    damage(4, "ends at the limit", |m, _| {
+        spare(m, |h, _, _| {
+            h.address = LARGEST.wrapping_sub(h.memory_size);
+        })
+    }),
+    damage(4, "grows to the limit", |m, _| {
+        spare(m, |h, _, _| {
+            h.memory_size = LARGEST.wrapping_sub(h.address);
+        })
+    }),
+    damage(12, "memory the largest", |m, _| sized(m, LARGEST, Taken)),
+    damage(12, "memory over the largest", |m, _| {
+        // The bias alone would let it pass.
+        given(m.bias <= ADDRESS_END - LARGEST - 16)?;
+        sized(m, LARGEST + 16, FIT)
     }),
 ];

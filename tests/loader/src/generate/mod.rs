@@ -10,7 +10,7 @@ use crate::answers::Call;
 use crate::random::Random;
 use damage::{Damage, Expected, DAMAGES};
 use module::Module;
-use special::SPECIALS;
+use special::{Special, LARGE_SPECIALS, SPECIALS};
 
 pub const SEED: u64 = 0x4861_676f_6c73_7461;
 
@@ -30,17 +30,18 @@ pub fn count(standard: u64) -> u64 {
 
 pub fn case(seed: u64, number: u64) -> Case {
     let mut r = Random::new(seed ^ number.wrapping_mul(0xd134_2543_de82_ef95));
-    let specials = SPECIALS.len() as u64;
-    if let Some((name, build)) = SPECIALS.get(number as usize) {
-        let (call, expected) = build(&mut r);
-        return Case { name: format!("special: {name}"), call, expected };
+    let specials = (SPECIALS.len() + LARGE_SPECIALS.len()) as u64;
+    if let Some(first) = SPECIALS.iter().chain(LARGE_SPECIALS).nth(number as usize) {
+        return special(&mut r, first);
     }
     let (round, kind) = ((number - specials) / 10, (number - specials) % 10);
-    // Specials again, with other modules; they are slow, so rarely.
+    // Specials again, with other modules; they are slow, so rarely, and the large ones most rarely.
     if round % 40 == 39 && kind == 0 {
-        let (name, build) = SPECIALS[(round / 40) as usize % SPECIALS.len()];
-        let (call, expected) = build(&mut r);
-        return Case { name: format!("special: {name}"), call, expected };
+        let again = (round / 40) as usize;
+        return match again % 10 {
+            9 => special(&mut r, &LARGE_SPECIALS[again / 10 % LARGE_SPECIALS.len()]),
+            _ => special(&mut r, &SPECIALS[again % SPECIALS.len()]),
+        };
     }
     match kind {
         0 | 1 => valid(&mut r),
@@ -52,6 +53,11 @@ pub fn case(seed: u64, number: u64) -> Case {
 
 pub fn cases(seed: u64, count: u64) -> impl Iterator<Item = Case> {
     (0..count).map(move |number| case(seed, number))
+}
+
+fn special(r: &mut Random, (name, build): &Special) -> Case {
+    let (call, expected) = build(r);
+    Case { name: format!("special: {name}"), call, expected }
 }
 
 fn valid(r: &mut Random) -> Case {

@@ -4,7 +4,7 @@ use crate::answers::Call;
 pub use crate::headers::Header;
 use crate::random::Random;
 use crate::{ADDRESS_END, LARGEST, MOST, PAGE};
-use std::collections::BTreeSet;
+use std::collections::{BTreeSet, HashSet};
 
 pub const LOAD: u32 = 1;
 pub const DYNAMIC: u32 = 2;
@@ -212,7 +212,20 @@ pub fn unpack(words: &[u64]) -> Vec<(usize, u128)> {
 
 /// The packed word at which so many entries and the places named are more than the most.
 pub fn passing(entries: usize, words: &[u64]) -> Option<usize> {
-    unpack(words).get(MOST - entries.min(MOST)).map(|place| place.0)
+    let mut total = entries;
+    words.iter().position(|&word| {
+        total += named(word);
+        total > MOST
+    })
+}
+
+/// How many places a packed word names.
+pub fn named(word: u64) -> usize {
+    if word.is_multiple_of(2) {
+        1
+    } else {
+        word.count_ones() as usize - 1
+    }
 }
 
 /// Words that name rising places: rows of them, not always in order, and empty bitmaps. A row for
@@ -256,6 +269,15 @@ fn pack(r: &mut Random, places: &[u64], room: usize) -> Vec<u64> {
 
 fn up(value: u64, to: u64) -> u64 {
     value.div_ceil(to) * to
+}
+
+/// Random bytes; a long row of them comes again.
+fn filler(r: &mut Random, length: usize) -> Vec<u8> {
+    let mut bytes = r.bytes(length.min(1 << 16));
+    while bytes.len() < length {
+        bytes.extend_from_within(..bytes.len().min(length - bytes.len()));
+    }
+    bytes
 }
 
 /// Globals in ascending order, each inside one load.
@@ -304,6 +326,8 @@ impl Module {
             (Some(words), _, _) => words,
             (_, Some(places), _) => 2 * places + 64,
             (_, _, Some(_)) => 0,
+            // At times room for more places than the most.
+            _ if r.once_in(20) => MOST / 40 + 60,
             _ => r.pick(&[0, 0, 0, 2, 6, 12, 30]),
         };
         let sizes = [
@@ -331,7 +355,7 @@ impl Module {
             let level = shape.level || address < 1 << 14 && r.once_in(6);
             let align = if level {
                 1 << if r.once_in(3) { r.below(64) } else { r.below(21) }
-            } else if address < LARGEST / 2 && r.once_in(9) {
+            } else if address < 1 << 19 && r.once_in(9) {
                 r.pick(&[1 << 13, 1 << 14, 1 << 14, 1 << 15, 1 << 16, 1 << 16])
             } else {
                 r.pick(&[0, 1, 1, 2, 8, 16, 16, 64, 256, 4096])
@@ -369,7 +393,7 @@ impl Module {
                     inner += r.below(40) * r.pick(&[8, 8, 8, 1, 0]);
                     if i == writable && chunk == TABLES {
                         inner += wanted_relocations as u64 * 16 + 64;
-                        inner += shape.packed.map_or(packed as u64 * 16, |n| n as u64 * 12);
+                        inner += shape.packed.map_or(packed.min(30) as u64 * 16, |n| n as u64 * 12);
                     }
                 }
             }
@@ -454,7 +478,7 @@ impl Module {
         }
 
         let mut m = Module {
-            filler: r.bytes(length as usize),
+            filler: filler(r, length as usize),
             identification: [0x7f, 0x45, 0x4c, 0x46, 2, 1, 1, 0, 0, 0, 0, 0, 0, 0, 0, 0],
             kind: 3,
             machine: 183,
@@ -652,7 +676,9 @@ impl Module {
             .map(|i| self.headers[i].clone())
             .filter(|h| h.writable() && up(h.address, 8) + 8 <= h.end())
             .collect();
-        let mut taken: Vec<u64> = Vec::new();
+        let mut taken: HashSet<u64> = HashSet::new();
+        // No place before the next of these is free.
+        let mut rest = homes.iter().flat_map(|h| (up(h.address, 8)..h.end() - 7).step_by(8));
         for _ in 0..count {
             let mut entry = Rela {
                 place: r.edge(),
@@ -671,10 +697,7 @@ impl Module {
                 place = up(home.address, 8) + r.below(places) * 8;
             }
             if full && taken.contains(&place) {
-                let free = homes.iter().find_map(|h| {
-                    (up(h.address, 8)..h.end() - 7).step_by(8).find(|p| !taken.contains(p))
-                });
-                place = free.expect("room for all places");
+                place = rest.find(|p| !taken.contains(p)).expect("room for all places");
             }
             if skipped || taken.contains(&place) {
                 if r.once_in(2) {
@@ -683,7 +706,7 @@ impl Module {
                 self.relocations.push(entry);
                 continue;
             }
-            taken.push(place);
+            taken.insert(place);
             entry.place = place;
             self.make_word(r, &mut entry);
             self.relocations.push(entry);
@@ -821,9 +844,8 @@ impl Module {
 
     /// The bytes at a place as they are loaded.
     pub fn loaded(&self, file: &[u8], place: u64) -> u64 {
-        let held = |i: &usize| self.headers[*i].address <= place && place < self.headers[*i].end();
-        let Some(i) = self.loads().into_iter().find(held) else { return 0 };
-        let load = &self.headers[i];
+        let held = |h: &&Header| h.kind == LOAD && h.address <= place && place < h.end();
+        let Some(load) = self.headers.iter().find(held) else { return 0 };
         (0..8).fold(0, |word, k| {
             let at = (load.offset + (place - load.address) + k) as usize;
             let byte = if place + k < load.file_end() { file[at] } else { 0 };
@@ -966,13 +988,10 @@ impl Module {
 
     pub fn call(&self) -> Call {
         let mut file = self.filler.clone();
+        let homes: Vec<&Header> = self.used_loads().into_iter().map(|i| &self.headers[i]).collect();
         for &(place, word) in &self.words {
-            let home = self
-                .used_loads()
-                .into_iter()
-                .map(|i| &self.headers[i])
-                .find(|h| h.address <= place && place < h.file_end());
-            if let Some(home) = home {
+            let holds = |h: &&&Header| h.address <= place && place < h.file_end();
+            if let Some(home) = homes.iter().find(holds) {
                 let size = (home.file_end() - place).min(8) as usize;
                 let at = home.offset.wrapping_add(place - home.address) as usize;
                 Module::put(&mut file, at, &word.to_le_bytes()[..size]);

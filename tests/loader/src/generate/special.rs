@@ -1,10 +1,13 @@
 //! Calls that need a module of their own: the limits of counts and lengths.
 
 use super::damage::Expected::{self, Refused, Taken};
+use super::damage::{Damage, LARGE_DAMAGES};
 use super::module::*;
 use crate::answers::Call;
+use crate::bench::{assemble, call, Tables};
 use crate::random::Random;
 use crate::{LARGEST, MOST};
+use std::collections::BTreeSet;
 
 pub type Special = (&'static str, fn(&mut Random) -> (Call, Expected));
 
@@ -27,7 +30,7 @@ fn many_globals(r: &mut Random, count: usize) -> Module {
         loads: Some(1),
         globals: Some(count),
         short_globals: true,
-        bss: Some(17 * 1024),
+        bss: Some(17 * count as u64),
         ..Shape::default()
     };
     Module::shaped(r, &shape)
@@ -62,6 +65,58 @@ fn over_large_memory(r: &mut Random, relocations: usize, packed: usize) -> Modul
     Module::shaped(r, &shape)
 }
 
+/// RELATIVE entries at some places, and packed words, over the largest file and memory.
+fn over_largest_memory(r: &mut Random, places: &[u64], packed: Vec<u64>) -> Call {
+    let entry = |&place| [place, RELATIVE.into(), r.below(LARGEST)];
+    let relocations = places.iter().map(entry).collect();
+    let descriptors = vec![0x82, 0x10, 0x10, 0x07, 0x01];
+    let mut file = vec![0; LARGEST as usize];
+    let tables = Tables { symbols: Vec::new(), relocations, packed, descriptors };
+    assemble(&mut file, 0, 64 + 2 * 56, &tables);
+    call(file, 3)
+}
+
+/// Places on both sides of each MiB from the lowest one, in the largest memory.
+fn sides(lowest: u64) -> Vec<u64> {
+    let each = (1..=16).flat_map(|i| [-16, -8, 0, 8].map(|side| i * (1 << 20) + side));
+    let places = each.map(|off| lowest.wrapping_add_signed(off));
+    places.filter(|&place| place < LARGEST).collect()
+}
+
+/// So many places in mixed order: the lowest, the last one of the largest memory, both sides of each
+/// MiB, and others anywhere between.
+fn mixed_places(r: &mut Random, lowest: u64, count: usize) -> Vec<u64> {
+    let mut places: BTreeSet<u64> = sides(lowest).into_iter().collect();
+    places.extend([lowest, LARGEST - 8]);
+    while places.len() < count {
+        places.insert(lowest + 8 * r.below((LARGEST - lowest) / 8));
+    }
+    let mut places: Vec<u64> = places.into_iter().collect();
+    r.shuffle(&mut places);
+    places
+}
+
+/// The most entries in mixed order over the largest memory, of which the last repeats this place.
+fn last_repeats(r: &mut Random, lowest: u64, place: u64) -> (Call, Expected) {
+    let mut places = mixed_places(r, lowest, MOST);
+    let at = places.iter().position(|&other| other == place).expect("the place is one of them");
+    places.swap(at, r.index(LAST));
+    places[LAST] = place;
+    (over_largest_memory(r, &places, Vec::new()), Refused(11, LAST as u64))
+}
+
+/// A damage that needs the largest memory.
+fn damaged(r: &mut Random, damage: &Damage) -> (Call, Expected) {
+    loop {
+        let mut m = Module::random(r);
+        if let Some(expected) = (damage.apply)(&mut m, r) {
+            if expected != Taken || m.unfit().is_empty() {
+                return (m.call(), expected);
+            }
+        }
+    }
+}
+
 /// A place, a row of empty bitmaps, a bitmap of one bit that names another place, and more words. Both
 /// places are past the file part, where zeros are loaded.
 fn long_row(r: &mut Random, row: usize, more: &[u64]) -> Module {
@@ -88,9 +143,8 @@ fn long_row(r: &mut Random, row: usize, more: &[u64]) -> Module {
     }
 }
 
-/// A place, as many empty bitmaps as a file has room for, and more words; their first index.
-fn longest_row(r: &mut Random, more: &[u64]) -> (Module, u64) {
-    let row = 120_000;
+/// A place, so many empty bitmaps, and more words; their first index.
+fn empty_row(r: &mut Random, row: usize, more: &[u64]) -> (Module, u64) {
     let shape = Shape {
         loads: Some(1),
         packed: Some(1),
@@ -101,6 +155,12 @@ fn longest_row(r: &mut Random, more: &[u64]) -> (Module, u64) {
     let words = [&m.packed[..1], &vec![1; row], more].concat();
     assert!(m.put_packed(words));
     (m, row as u64 + 1)
+}
+
+/// An entry whose address is just below 0.
+fn below_zero(m: &mut Module, entry: usize) {
+    let e = &mut m.relocations[entry];
+    (e.kind, e.symbol, e.addend) = (RELATIVE, 0, -1 - m.bias as i64);
 }
 
 /// 15 loads, one of which has an align above the others' and above 4,096, and a bias that is a
@@ -139,47 +199,27 @@ pub const SPECIALS: &[Special] = &[
         call.file.pop();
         (call, Refused(1, 0))
     }),
-    ("the largest file", |r| {
-        of(r, Shape { file_length: Some(LARGEST as usize), ..Shape::default() }, Taken)
+    ("1,025 relocations", |r| (many_relocations(r, 1_025).call(), Taken)),
+    ("1,025 relocations, the last repeats the first", |r| {
+        let mut m = many_relocations(r, 1_025);
+        m.relocations[1_024].place = m.relocations[0].place;
+        (m.call(), Refused(11, 1_024))
     }),
-    ("one byte more", |r| {
-        of(r, Shape { file_length: Some(LARGEST as usize + 1), ..Shape::default() }, Refused(1, 0))
+    ("1,025 relocations, the last of a bad kind", |r| {
+        let mut m = many_relocations(r, 1_025);
+        m.relocations[1_024].kind = 1026;
+        (m.call(), Refused(10, 1_024))
     }),
-    ("1,023 relocations", |r| (many_relocations(r, LAST).call(), Taken)),
-    ("1,024 relocations", |r| (many_relocations(r, MOST).call(), Taken)),
-    ("1,025 relocations", |r| (many_relocations(r, MOST + 1).call(), Refused(7, 0))),
-    ("1,025 relocations, one skipped", |r| {
-        let mut m = many_relocations(r, MOST + 1);
-        m.relocations[7].kind = NONE;
-        (m.call(), Refused(7, 0))
+    ("1,025 relocations, the last address below 0", |r| {
+        let mut m = many_relocations(r, 1_025);
+        below_zero(&mut m, 1_024);
+        (m.call(), Refused(13, 1_024))
     }),
-    ("1,024 relocations, the last repeats the first", |r| {
-        let mut m = many_relocations(r, MOST);
-        m.relocations[LAST].place = m.relocations[0].place;
-        (m.call(), Refused(11, LAST as u64))
-    }),
-    ("1,024 relocations, the last of a bad kind", |r| {
-        let mut m = many_relocations(r, MOST);
-        m.relocations[LAST].kind = 1026;
-        (m.call(), Refused(10, LAST as u64))
-    }),
-    ("1,024 relocations, the last address below 0", |r| {
-        let mut m = many_relocations(r, MOST);
-        let last = &mut m.relocations[LAST];
-        (last.kind, last.symbol, last.addend) = (RELATIVE, 0, -1 - m.bias as i64);
-        (m.call(), Refused(13, LAST as u64))
-    }),
-    ("1,023 packed places", |r| both(r, 0, 0, LAST)),
-    ("1,024 packed places", |r| both(r, 0, 0, MOST)),
-    ("1,025 packed places", |r| both(r, 0, 0, MOST + 1)),
-    ("1,000 relocations and 24 packed places", |r| both(r, 1_000, 0, 24)),
+    ("1,025 packed places", |r| both(r, 0, 0, 1_025)),
     ("1,000 relocations and 25 packed places", |r| both(r, 1_000, 0, 25)),
-    ("1,000 relocations, 9 skipped, and 24 packed places", |r| both(r, 1_000, 9, 24)),
-    ("1,000 relocations, 9 skipped, and 25 packed places", |r| both(r, 1_000, 9, 25)),
-    ("1,024 relocations and a packed place", |r| both(r, MOST, 3, 1)),
-    ("1,024 relocations and no packed place", |r| both(r, MOST, 3, 0)),
-    ("1,024 packed places, the last repeats the first", |r| {
-        let shape = Shape { relocations: Some(0), packed: Some(LAST), ..Shape::default() };
+    ("1,000 relocations, 9 skipped, and 34 packed places", |r| both(r, 1_000, 9, 34)),
+    ("1,025 packed places, the last repeats the first", |r| {
+        let shape = Shape { relocations: Some(0), packed: Some(1_024), ..Shape::default() };
         let mut m = Module::shaped(r, &shape);
         let words = [&m.packed[..], &m.packed[..1]].concat();
         assert!(m.put_packed(words));
@@ -191,25 +231,15 @@ pub const SPECIALS: &[Special] = &[
         (m.call(), Refused(11, m.relocations.len() as u64 + 1_802))
     }),
     ("1,800 empty bitmaps, and too many places", |r| {
-        let m = long_row(r, 1_800, &[u64::MAX; 17]);
+        let m = long_row(r, 1_800, &[u64::MAX; MOST / 63 + 1]);
         let passed = passing(m.relocations.len(), &m.packed).expect("too many places");
         (m.call(), Refused(15, passed as u64))
     }),
-    ("120,000 empty bitmaps, and a place outside", |r| {
-        let (m, at) = longest_row(r, &[1 << 32]);
-        (m.call(), Refused(11, m.relocations.len() as u64 + at))
-    }),
-    ("120,000 empty bitmaps, and too many places", |r| {
-        let (m, at) = longest_row(r, &[u64::MAX; 17]);
-        let passed = passing(m.relocations.len(), &m.packed).expect("too many places");
-        assert!(passed as u64 > at);
-        (m.call(), Refused(15, passed as u64))
-    }),
-    ("1,024 relocations over a large memory", |r| (over_large_memory(r, MOST, 0).call(), Taken)),
-    ("1,024 relocations over a large memory, the last repeats another", |r| {
-        let mut m = over_large_memory(r, MOST, 0);
-        m.relocations[LAST].place = m.relocations[r.index(LAST)].place;
-        (m.call(), Refused(11, LAST as u64))
+    ("1,025 relocations over a large memory", |r| (over_large_memory(r, 1_025, 0).call(), Taken)),
+    ("1,025 relocations over a large memory, the last repeats another", |r| {
+        let mut m = over_large_memory(r, 1_025, 0);
+        m.relocations[1_024].place = m.relocations[r.index(1_024)].place;
+        (m.call(), Refused(11, 1_024))
     }),
     ("1,000 relocations over a large memory, a packed place repeats one", |r| {
         let mut m = over_large_memory(r, 1_000, 20);
@@ -217,27 +247,18 @@ pub const SPECIALS: &[Special] = &[
         assert!(m.put_packed(words));
         (m.call(), Refused(11, 999 + m.packed.len() as u64))
     }),
-    ("1,023 descriptors", |r| (many_globals(r, LAST).call(), Taken)),
-    ("1,024 descriptors", |r| (many_globals(r, MOST).call(), Taken)),
-    ("1,025 descriptors", |r| (many_globals(r, MOST + 1).call(), Refused(9, MOST as u64))),
-    ("1,024 descriptors and a cut one", |r| {
-        let mut m = many_globals(r, MOST);
-        let mut bytes = m.plain_prefix(MOST);
+    ("1,025 descriptors", |r| (many_globals(r, 1_025).call(), Taken)),
+    ("1,025 descriptors, the last cut", |r| {
+        let mut m = many_globals(r, 1_025);
+        let mut bytes = m.plain_prefix(1_024);
         bytes.push(0x80);
         assert!(m.put_descriptors(bytes));
-        (m.call(), Refused(9, MOST as u64))
+        (m.call(), Refused(8, 1_024))
     }),
-    ("1,024 descriptors, the last cut", |r| {
-        let mut m = many_globals(r, MOST);
-        let mut bytes = m.plain_prefix(LAST);
-        bytes.push(0x80);
-        assert!(m.put_descriptors(bytes));
-        (m.call(), Refused(8, LAST as u64))
-    }),
-    ("1,024 descriptors, the last choice as before", |r| {
-        let mut m = many_globals(r, MOST);
-        m.choices[LAST] = m.choices[LAST - 1];
-        (m.call(), Refused(14, LAST as u64))
+    ("1,025 descriptors, the last choice as before", |r| {
+        let mut m = many_globals(r, 1_025);
+        m.choices[1_024] = m.choices[1_023];
+        (m.call(), Refused(14, 1_024))
     }),
     ("4,096 bytes of dynamic entries", |r| {
         of(r, Shape { entries: Some(256), null_last: true, ..Shape::default() }, Taken)
@@ -260,6 +281,133 @@ pub const SPECIALS: &[Special] = &[
         (one_large_align(r, true), Refused(12, 0))
     }),
     ("17 headers", |r| of(r, Shape { headers: Some(17), ..Shape::default() }, Refused(3, 0))),
+];
+
+/// The same at the limits, where they are large.
+pub const LARGE_SPECIALS: &[Special] = &[
+    ("the largest file", |r| {
+        of(r, Shape { file_length: Some(LARGEST as usize), ..Shape::default() }, Taken)
+    }),
+    ("one byte more", |r| {
+        of(r, Shape { file_length: Some(LARGEST as usize + 1), ..Shape::default() }, Refused(1, 0))
+    }),
+    ("a PT_LOAD moved to the limit", |r| damaged(r, &LARGE_DAMAGES[0])),
+    ("a PT_LOAD grown to the limit", |r| damaged(r, &LARGE_DAMAGES[1])),
+    ("the largest memory", |r| damaged(r, &LARGE_DAMAGES[2])),
+    ("16 bytes more", |r| damaged(r, &LARGE_DAMAGES[3])),
+    ("16 bytes more, and an address below 0", |r| {
+        let mut m = many_relocations(r, 2);
+        below_zero(&mut m, 0);
+        (m.memory, m.plane) = (LARGEST + 16, LARGEST / 16 + 1);
+        (m.call(), Refused(12, 0))
+    }),
+    ("65,535 relocations", |r| (many_relocations(r, LAST).call(), Taken)),
+    ("65,536 relocations", |r| (many_relocations(r, MOST).call(), Taken)),
+    ("65,537 relocations", |r| (many_relocations(r, MOST + 1).call(), Refused(7, 0))),
+    ("65,537 relocations, one skipped", |r| {
+        let mut m = many_relocations(r, MOST + 1);
+        m.relocations[7].kind = NONE;
+        (m.call(), Refused(7, 0))
+    }),
+    ("65,536 relocations, the last repeats the first", |r| {
+        let mut m = many_relocations(r, MOST);
+        m.relocations[LAST].place = m.relocations[0].place;
+        (m.call(), Refused(11, LAST as u64))
+    }),
+    ("65,536 relocations, the last of a bad kind", |r| {
+        let mut m = many_relocations(r, MOST);
+        m.relocations[LAST].kind = 1026;
+        (m.call(), Refused(10, LAST as u64))
+    }),
+    ("65,536 relocations, the last address below 0", |r| {
+        let mut m = many_relocations(r, MOST);
+        below_zero(&mut m, LAST);
+        (m.call(), Refused(13, LAST as u64))
+    }),
+    ("65,536 packed places", |r| both(r, 0, 0, MOST)),
+    ("65,537 packed places", |r| both(r, 0, 0, MOST + 1)),
+    ("65,000 relocations and 536 packed places", |r| both(r, 65_000, 0, 536)),
+    ("65,000 relocations and 537 packed places", |r| both(r, 65_000, 0, 537)),
+    ("65,000 relocations, 9 skipped, and 536 packed places", |r| both(r, 65_000, 9, 536)),
+    ("65,000 relocations, 9 skipped, and 537 packed places", |r| both(r, 65_000, 9, 537)),
+    ("1,000 relocations and 64,536 packed places", |r| both(r, 1_000, 0, 64_536)),
+    ("65,536 relocations and a packed place", |r| both(r, MOST, 3, 1)),
+    ("65,536 relocations and no packed place", |r| both(r, MOST, 3, 0)),
+    ("65,536 packed places, the last repeats the first", |r| {
+        let shape = Shape { relocations: Some(0), packed: Some(LAST), ..Shape::default() };
+        let mut m = Module::shaped(r, &shape);
+        let words = [&m.packed[..], &m.packed[..1]].concat();
+        assert!(m.put_packed(words));
+        (m.call(), Refused(11, m.packed.len() as u64 - 1))
+    }),
+    ("2,000,000 empty bitmaps, and a place outside", |r| {
+        let (m, at) = empty_row(r, 2_000_000, &[1 << 32]);
+        (m.call(), Refused(11, m.relocations.len() as u64 + at))
+    }),
+    ("120,000 empty bitmaps, and too many places", |r| {
+        let (m, at) = empty_row(r, 120_000, &[u64::MAX; MOST / 63 + 1]);
+        let passed = passing(m.relocations.len(), &m.packed).expect("too many places");
+        assert!(passed as u64 > at);
+        (m.call(), Refused(15, passed as u64))
+    }),
+    ("65,536 relocations over the largest memory", |r| {
+        let places = mixed_places(r, 0, MOST);
+        (over_largest_memory(r, &places, Vec::new()), Taken)
+    }),
+    ("65,536 relocations over the largest memory but its first bytes", |r| {
+        let lowest = 8 * r.below(1 << 16);
+        let places = mixed_places(r, lowest, MOST);
+        (over_largest_memory(r, &places, Vec::new()), Taken)
+    }),
+    ("the last of them repeats the memory's first place", |r| last_repeats(r, 0, 0)),
+    ("the last of them repeats the memory's last place", |r| last_repeats(r, 0, LARGEST - 8)),
+    ("the last of them repeats a place beside a MiB", |r| {
+        let place = r.pick(&sides(0));
+        last_repeats(r, 0, place)
+    }),
+    ("the last of them repeats a place beside a MiB from the lowest", |r| {
+        let lowest = 8 * r.from(1, 1 << 16);
+        let place = r.pick(&sides(lowest));
+        last_repeats(r, lowest, place)
+    }),
+    ("65,000 relocations and 536 packed places over the largest memory", |r| {
+        let mut places = mixed_places(r, 4 << 20, MOST);
+        let packed = places.split_off(65_000);
+        (over_largest_memory(r, &places, packed), Taken)
+    }),
+    ("65,000 relocations over the largest memory, a packed place repeats one", |r| {
+        let mut places = mixed_places(r, 4 << 20, 65_000 + 535);
+        let packed = [&places[65_000..], &[r.pick(&places[..65_000])]].concat();
+        places.truncate(65_000);
+        (over_largest_memory(r, &places, packed), Refused(11, 65_535))
+    }),
+    ("65,535 descriptors", |r| (many_globals(r, LAST).call(), Taken)),
+    ("65,536 descriptors", |r| (many_globals(r, MOST).call(), Taken)),
+    ("65,537 descriptors", |r| (many_globals(r, MOST + 1).call(), Refused(9, MOST as u64))),
+    ("65,536 descriptors and a cut one", |r| {
+        let mut m = many_globals(r, MOST);
+        let mut bytes = m.plain_prefix(MOST);
+        bytes.push(0x80);
+        assert!(m.put_descriptors(bytes));
+        (m.call(), Refused(9, MOST as u64))
+    }),
+    ("65,536 descriptors, the last cut", |r| {
+        let mut m = many_globals(r, MOST);
+        let mut bytes = m.plain_prefix(LAST);
+        bytes.push(0x80);
+        assert!(m.put_descriptors(bytes));
+        (m.call(), Refused(8, LAST as u64))
+    }),
+    ("65,536 descriptors, the last choice as before", |r| {
+        let mut m = many_globals(r, MOST);
+        m.choices[LAST] = m.choices[LAST - 1];
+        (m.call(), Refused(14, LAST as u64))
+    }),
+    ("65,536 descriptors and a choice too few", |r| {
+        let mut m = many_globals(r, MOST);
+        m.choices.pop();
+        (m.call(), Refused(14, MOST as u64))
+    }),
     ("everything at its limit", |r| {
         let mut m = Module::shaped(
             r,
