@@ -14,11 +14,6 @@ const LIMIT_LESS_BIAS: u64 = 0xffffc0000000;
 
 const LAST_LESS_BIAS: u64 = 0xffffbfffffff;
 
-// Bitmaps of 15 and of 16 places.
-const FIFTEEN_BITS: u64 = 0xffff;
-
-const SIXTEEN_BITS: u64 = 0x1ffff;
-
 fn run_words() {
     bench_runs::run_sheet(b"A = 0x10C0, *P = -128: ", BIAS, 0x10c0, MINUS_128);
     bench_runs::run_sheet(b"A = 0x10C0, *P = 0: ", BIAS, 0x10c0, 0);
@@ -46,8 +41,6 @@ fn run_packed() {
         LIMIT_LESS_BIAS,
     );
     bench_runs::run_packed(b"packed bitmap first: ", 3, 0x10c0);
-    bench_runs::run_packed_long(b"1024 packed places: ", FIFTEEN_BITS);
-    bench_runs::run_packed_long(b"1025 packed places: ", SIXTEEN_BITS);
 }
 
 fn main() {
@@ -58,9 +51,7 @@ fn main() {
     bench_runs::run_sheet(b"bias 0x40000800: ", 0x40000800, 0x10c0, 0);
     bench_runs::run_aligned(b"align 16384, bias 4096: ", 16384, 4096);
     bench_runs::run_aligned(b"align 16384, bias 16384: ", 16384, 16384);
-    bench_runs::run_long(b"1024 relocations: ", 1024);
-    bench_runs::run_long(b"1025 relocations: ", 1025);
-    bench_runs::run_repeated(b"1024 relocations, the last at the first place: ");
     run_packed();
+    bench_limits::run_limits();
     bench_report::run_tables();
 }

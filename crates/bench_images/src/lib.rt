@@ -23,10 +23,13 @@ const RELA: usize = 512;
 // The place of the sheet's relocation, in its file part.
 pub const SHEET_PLACE: usize = 448;
 
-// The file parts of the sheet's image and of one with room for 1,025 relocations.
+// The file parts of the sheet's image and of one with room for a relocation more than a module may have.
 const SHEET_FILE: u64 = 1024;
 
-pub const LONG_FILE: u32 = 25600;
+pub const LONG_FILE: u32 = 1576960;
+
+// The descriptors of many globals, in the file part of the long image.
+const MANY: usize = 1024;
 
 // A program header's kind, and its flags in the high half: PT_LOAD, readable and writable, and PT_DYNAMIC.
 const WRITABLE_LOAD: u64 = 0x600000001;
@@ -137,10 +140,22 @@ pub fn put_long(f: &mut [u8], memsz: u64, entries: u32, addend: u64) {
     put_relocations(f, entries, LONG_FILE, addend);
 }
 
-// The same with 1,024, the last at the place of the first.
-pub fn put_repeated(f: &mut [u8], memsz: u64, addend: u64) {
-    put_long(f, memsz, 1024, addend);
-    put_relative(f, 1023, LONG_FILE as u64, addend);
+// The same with the last at the place of the first.
+pub fn put_repeated(f: &mut [u8], memsz: u64, entries: u32, addend: u64) {
+    put_long(f, memsz, entries, addend);
+    if 0 < entries {
+        put_relative(f, entries - 1, LONG_FILE as u64, addend);
+    }
+}
+
+// An image with so many globals of a granule each, one after the other from address 0 on, and a relocation.
+pub fn put_globals(f: &mut [u8], memsz: u64, globals: u32, place: u64, addend: u64) {
+    put_image(f, LONG_FILE as u64, memsz);
+    put_table(f, 1);
+    put_relative(f, 0, place, addend);
+    put_dynamic(f, 3, DT_MEMTAG_GLOBALS, MANY as u64);
+    put_dynamic(f, 4, DT_MEMTAG_GLOBALSSZ, globals as u64);
+    memory::fill_at(f, MANY, globals as usize, 1);
 }
 
 // The sheet's image with a packed table of one word, and the bytes of the sheet's place.
@@ -158,11 +173,11 @@ fn put_bitmaps(f: &mut [u8], words: u32) {
     }
 }
 
-// An image with packed places after the file part: one by a word, 1,008 by 16 bitmaps, and those of a last bitmap.
-pub fn put_packed_long(f: &mut [u8], memsz: u64, last: u64) {
+// An image with packed places after the file part: one by a word, 63 by each of so many bitmaps less one, and those of a last bitmap.
+pub fn put_packed_long(f: &mut [u8], memsz: u64, bitmaps: u32, last: u64) {
     put_image(f, LONG_FILE as u64, memsz);
-    put_packed_table(f, 144);
-    put_bitmaps(f, 17);
+    put_packed_table(f, 8 * (bitmaps as u64) + 8);
+    put_bitmaps(f, bitmaps);
     memory::put64(f, RELA, LONG_FILE as u64);
-    memory::put64(f, RELA + 136, last);
+    memory::put64(f, RELA + 8 * (bitmaps as usize), last);
 }

@@ -3,27 +3,19 @@ use bench_images::SHEET_PLACE;
 use libc::STDOUT_FILENO;
 use rules::Answer;
 
-// Bytes of an image, whose file part is its front.
-const FILE: usize = 25600;
+// Bytes of an image.
+const FILE: usize = 1024;
 
 // The memory of the sheet's image.
 const SHEET_MEMORY: usize = 0x2000;
 
 const SHEET_PLANE: usize = 0x200;
 
-// That of an image with room for 1,025 relocations.
-const LONG_MEMORY: usize = 0x9000;
-
-const LONG_PLANE: usize = 0x900;
-
-// The place of the entry of index 1,023.
-const LONG_LAST: usize = 33784;
-
 // The bias of the sheet.
 pub const BIAS: u64 = 0x40000000;
 
 // Loads an image; writes the globals, the words relocated and the word at a place, or the refusal.
-fn run_load(
+pub fn run_load(
     f: &[u8],
     bias: u64,
     memory: &mut [u8],
@@ -75,33 +67,4 @@ pub fn run_packed(name: &[u8], word: u64, loaded: u64) {
     let mut f = [0u8; FILE];
     bench_images::put_packed(&mut f, SHEET_MEMORY as u64, word, loaded);
     run_image(&f, name, BIAS, b"\x03\x09\x05");
-}
-
-// Loads an image with room for 1,025 places after its file part; the word is that of the place of index 1,023.
-fn run_places(f: &[u8], name: &[u8]) {
-    let mut memory = [0u8; LONG_MEMORY];
-    let mut plane = [0u8; LONG_PLANE];
-    io::write_all(STDOUT_FILENO, name);
-    run_load(f, BIAS, &mut memory, &mut plane, b"\x03\x09\x05", LONG_LAST);
-}
-
-// An image with packed places: 1,009 and those of a last bitmap.
-pub fn run_packed_long(name: &[u8], last: u64) {
-    let mut f = [0u8; FILE];
-    bench_images::put_packed_long(&mut f, LONG_MEMORY as u64, last);
-    run_places(&f, name);
-}
-
-// An image with so many relocations.
-pub fn run_long(name: &[u8], entries: u32) {
-    let mut f = [0u8; FILE];
-    bench_images::put_long(&mut f, LONG_MEMORY as u64, entries, 0x10c0);
-    run_places(&f, name);
-}
-
-// An image with 1,024 relocations, the last at the place of the first.
-pub fn run_repeated(name: &[u8]) {
-    let mut f = [0u8; FILE];
-    bench_images::put_repeated(&mut f, LONG_MEMORY as u64, 0x10c0);
-    run_places(&f, name);
 }
