@@ -24,7 +24,7 @@
  *   14         choices; a wrong number of them gives the number of globals
  *   15         words of the packed table alone; 0 where it is not backed
  *   others     nothing: 0
- * A file of 1,048,576 bytes has room for some 131,000 packed words, and a position may be as high.
+ * A file of the largest size has room for some 2,097,000 packed words, and a position may be as high.
  */
 #ifndef HAGOLSTAN_H
 #define HAGOLSTAN_H
@@ -35,6 +35,13 @@
 #ifdef __cplusplus
 extern "C" {
 #endif
+
+/* The limits of a module: the bytes of its file, the end of its addresses and so the bytes of its memory, its RELA
+ * entries (skipped ones too) and packed places together, its globals. */
+#define HAGOLSTAN_FILE_LIMIT 16777216
+#define HAGOLSTAN_MEMORY_LIMIT 16777216
+#define HAGOLSTAN_RELOCATION_LIMIT 65536
+#define HAGOLSTAN_GLOBAL_LIMIT 65536
 
 /* Examines a module file: checks 1 to 11 and 15. Reads the file only. */
 uint64_t hagolstan_examine(const uint8_t *file, size_t file_length);
@@ -51,12 +58,12 @@ uint64_t hagolstan_examine(const uint8_t *file, size_t file_length);
 uint64_t hagolstan_facts(const uint8_t *file, size_t file_length);
 
 /* Loads a module: checks 1 to 15, and only then writes.
- *   file      the module, an ELF64 shared object, at most 1,048,576 bytes
+ *   file      the module, an ELF64 shared object, at most HAGOLSTAN_FILE_LIMIT bytes
  *   bias      the address at which memory begins at run time, a multiple of 4,096 and of the largest align of
  *             any PT_LOAD (0 counts as 1). Only the number is asked: the buffer that is lent may stand
  *             elsewhere
  *   memory    lent memory: offset x stands for the file's address x; a multiple of 16 bytes, at least the end
- *             of the last PT_LOAD, at most 1,048,576
+ *             of the last PT_LOAD, at most HAGOLSTAN_MEMORY_LIMIT
  *   plane     lent tag plane: one byte for each 16 bytes of memory
  *   choices   one tag from 1 to 15 for each global, in the order of the descriptor table
  * Taken: memory holds segments, zeros and relocated words, plane holds each global's choice and 0 elsewhere;
@@ -91,7 +98,7 @@ uint64_t hagolstan_step(const uint8_t *table, size_t table_length, uint64_t posi
  *   5   the end, the exact sum of address and size, is above 2^48
  * and after all of them:
  *   6   the buffer is too small; index 0
- * The number of globals has no limit here; a module may have 1,024. */
+ * The number of globals has no limit here; a module may have HAGOLSTAN_GLOBAL_LIMIT. */
 uint64_t hagolstan_write_table(const uint64_t *addresses, size_t addresses_length,
                                const uint64_t *sizes, size_t sizes_length,
                                uint8_t *buffer, size_t buffer_length);

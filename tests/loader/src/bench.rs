@@ -5,9 +5,10 @@ use crate::generate::module::uleb;
 use crate::random::Random;
 use crate::writer::ENOUGH;
 use crate::MOST;
+use std::hint::black_box;
 use std::time::{Duration, Instant};
 
-pub const SIZES: [usize; 3] = [16 << 10, 256 << 10, 1 << 20];
+pub const SIZES: [usize; 5] = [16 << 10, 256 << 10, 1 << 20, 4 << 20, 16 << 20];
 
 const SYMBOLS: usize = 32;
 const PAGE: u64 = 4_096;
@@ -29,6 +30,13 @@ pub fn mixed(size: usize) -> Call {
     let mut places = rising(size);
     Random::new(size as u64).shuffle(&mut places);
     image_with(size, &places, Vec::new())
+}
+
+/// Entries at so many places in mixed order, the last at the place of the first.
+pub fn repeated(size: usize, count: usize) -> Call {
+    let mut places = ORDERS[0].1(size as u64, count as u64);
+    places[count - 1] = places[0];
+    entries(size, &places, false)
 }
 
 /// The same without relocations.
@@ -307,6 +315,30 @@ pub fn loads(call: &Call, loaders: [&dyn Loader; 2], rounds: usize) -> [Times; 2
     taken.map(times)
 }
 
+/// Clearing memory and copying the file over it, and loads by two loaders, in turn.
+pub fn loads_beside_copies(call: &Call, loaders: [&dyn Loader; 2], rounds: usize) -> [Times; 3] {
+    let mut memory = vec![0; call.memory_length];
+    let mut plane = vec![0; call.plane_length];
+    let mut taken = [Vec::new(), Vec::new(), Vec::new()];
+    for round in 0..3 * rounds {
+        let which = (round + round / 3) % 3;
+        memory.fill(0);
+        plane.fill(0);
+        let start = Instant::now();
+        if which == 0 {
+            black_box(&mut memory).fill(0);
+            black_box(&mut memory).copy_from_slice(&call.file);
+            black_box(&memory);
+        } else {
+            let loader = loaders[which - 1];
+            let answer = loader.load(&call.file, call.bias, &mut memory, &mut plane, &call.choices);
+            assert_eq!(answer, call.choices.len() as u64 * 256);
+        }
+        taken[which].push(start.elapsed());
+    }
+    taken.map(times)
+}
+
 /// Examines by two loaders in turn.
 pub fn examines(call: &Call, loaders: [&dyn Loader; 2], rounds: usize) -> [Times; 2] {
     let mut taken = [Vec::new(), Vec::new()];
@@ -320,17 +352,23 @@ pub fn examines(call: &Call, loaders: [&dyn Loader; 2], rounds: usize) -> [Times
     taken.map(times)
 }
 
-/// The times of examine of each file by each loader, all in turn; by file, then by loader.
-pub fn walks(calls: &[Call], loaders: &[&dyn Loader], rounds: usize) -> Vec<Vec<Times>> {
+/// The times of examine of each file by each loader, all in turn; by file, then by loader. The answers
+/// are of modules without globals: 0, or the refusal of the file.
+pub fn walks(
+    calls: &[Call],
+    answers: &[u64],
+    loaders: &[&dyn Loader],
+    rounds: usize,
+) -> Vec<Vec<Times>> {
     let mut taken = vec![vec![Vec::new(); loaders.len()]; calls.len()];
     for round in 0..rounds {
-        for (call, taken) in calls.iter().zip(&mut taken) {
+        for ((call, expected), taken) in calls.iter().zip(answers).zip(&mut taken) {
             for i in 0..loaders.len() {
                 let which = (round + i) % loaders.len();
                 let start = Instant::now();
                 let answer = loaders[which].examine(&call.file);
                 taken[which].push(start.elapsed());
-                assert_eq!(answer, call.choices.len() as u64 * 256);
+                assert_eq!(answer, *expected);
             }
         }
     }

@@ -1,10 +1,10 @@
-//! Times the proved loader and writer beside the Rust ones; prints three markdown tables.
+//! Times the proved loader and writer beside the Rust ones; prints five markdown tables.
 //!
 //!     bench [--against archive] [--rounds N]
 
 use loader::answers::{Listing, Loader};
 use loader::bench::{bare, empty_bitmaps, examines, image, loads, mixed, packed, Times, SIZES};
-use loader::bench::{entries, walks, ORDERS};
+use loader::bench::{entries, loads_beside_copies, repeated, walks, ORDERS};
 use loader::bench::{mixed_globals, short_globals, writes};
 use loader::compare::partner;
 use std::process::ExitCode;
@@ -46,7 +46,7 @@ fn walk_rows(memory: usize, order: usize, symbols: bool, loaders: [&dyn Loader; 
     let counts = if memory < 1 << 20 { &COUNTS[..1] } else { &COUNTS };
     let mut calls = vec![entries(memory, &[], symbols)];
     calls.extend(counts.iter().map(|&n| entries(memory, &places(memory as u64, n), symbols)));
-    let taken = walks(&calls, &loaders, rounds);
+    let taken = walks(&calls, &vec![0; calls.len()], &loaders, rounds);
     let kinds = if symbols { ", half with symbols" } else { "" };
     for (which, time) in TIMES {
         let mut cells = Vec::new();
@@ -60,6 +60,31 @@ fn walk_rows(memory: usize, order: usize, symbols: bool, loaders: [&dyn Loader; 
             cells.push(shown(walk(3).zip(walk(1)).map(|(long, short)| long / short)));
         }
         println!("| {} KiB | {name}{kinds} | {which} | {} |", memory >> 10, cells.join(" | "));
+    }
+}
+
+/// Memories and numbers of entries at which what an entry costs is shown.
+const GROWING: [(usize, usize); 3] = [(1 << 20, 16_384), (4 << 20, 65_536), (16 << 20, 65_536)];
+
+/// Nanoseconds an entry of examine, where the places are distinct and where the last repeats the
+/// first.
+fn growing_rows(order: usize, repeats: bool, loaders: [&dyn Loader; 2], rounds: usize) {
+    let (name, places) = ORDERS[order];
+    let what = if repeats { ", the last as the first: refused by 11" } else { "" };
+    for (which, time) in TIMES {
+        let mut cells = [Vec::new(), Vec::new()];
+        for (memory, count) in GROWING {
+            let (call, answer) = if repeats {
+                (repeated(memory, count), 256 * (count as u64 - 1) + 11)
+            } else {
+                (entries(memory, &places(memory as u64, count as u64), false), 0)
+            };
+            let taken = walks(&[call], &[answer], &loaders, rounds);
+            for (cells, times) in cells.iter_mut().zip(&taken[0]) {
+                cells.push(format!("{:.2}", time(times).as_nanos() as f64 / count as f64));
+            }
+        }
+        println!("| {name}{what} | {which} | {} |", cells.concat().join(" | "));
     }
 }
 
@@ -87,11 +112,15 @@ fn run(words: &[String]) -> Result<(), String> {
         row(&name, "load", loads(&call, loaders, rounds));
         row(&name, "examine", examines(&call, loaders, rounds));
     }
+    for size in SIZES {
+        let call = mixed(size);
+        let name = format!("{} KiB, places mixed", size >> 10);
+        row(&name, "load", loads(&call, loaders, rounds));
+        row(&name, "examine", examines(&call, loaders, rounds));
+    }
     let others = [
-        ("16 KiB, places mixed", mixed(16 << 10)),
-        ("256 KiB, places mixed", mixed(256 << 10)),
-        ("1024 KiB, places mixed", mixed(1 << 20)),
         ("1024 KiB, no relocations", bare(1 << 20)),
+        ("16384 KiB, no relocations", bare(16 << 20)),
         ("256 KiB, 1,000 packed places", packed(256 << 10)),
         ("256 KiB, 10,000 empty bitmaps", empty_bitmaps(256 << 10, 10_000)),
     ];
@@ -99,6 +128,31 @@ fn run(words: &[String]) -> Result<(), String> {
         row(name, "load", loads(&call, loaders, rounds));
         row(name, "examine", examines(&call, loaders, rounds));
     }
+
+    println!("\nMicroseconds of a load beside clearing memory and copying the file over it, in turn, best times.\n");
+    println!("| image | clear + copy | first | first : clear + copy | second | second : clear + copy | first : second |");
+    println!("|---|---|---|---|---|---|---|");
+    for size in &SIZES[2..] {
+        for (order, call) in [("rising", image(*size)), ("mixed", mixed(*size))] {
+            let best = loads_beside_copies(&call, loaders, rounds).map(|times| times.best);
+            let [copy, first, second] = best.map(|time| time.as_nanos() as f64 / 1000.0);
+            println!(
+                "| {} KiB, places {order} | {copy:.0} | {first:.0} | {:.2} | {second:.0} | {:.2} | {:.2} |",
+                size >> 10,
+                first / copy,
+                second / copy,
+                first / second
+            );
+        }
+    }
+
+    println!("\nNanoseconds an entry of examine: 1 MiB of memory with 16,384 entries, 4 and 16 MiB with 65,536.\n");
+    println!("| places | time | first, 1 MiB | 4 MiB | 16 MiB | second, 1 MiB | 4 MiB | 16 MiB |");
+    println!("|---|---|---|---|---|---|---|---|");
+    for order in 0..ORDERS.len() {
+        growing_rows(order, false, loaders, rounds);
+    }
+    growing_rows(0, true, loaders, rounds);
 
     println!("\nThe walk of 10 and 11: microseconds of examine without entries, and what so many of distinct places add to them.\n");
     println!("| memory | places | time | first, none | 256 | 1,000 | 1,024 | 1,024 : 256 | second, none | 256 | 1,000 | 1,024 | 1,024 : 256 |");
