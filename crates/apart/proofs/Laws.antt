@@ -20,7 +20,8 @@ use Rattle.marks.specs.Map.{shares}
 use Rattle.marks.proofs.Laws.{near-shares}
 use Rattle.bits.specs.Bits.{has, withWord}
 use Rattle.bits.proofs.Laws.{has-same, has-kept}
-use Rattle.apart.specs.Apart.{unsure, Met, Apart, Spread, Within}
+use Rattle.apart.specs.Apart.{unsure, Met, Apart, Spread, Tells, Within}
+use Rattle.apart.specs.declared.Told.{Told}
 
 -- ---- one place
 
@@ -111,6 +112,15 @@ module _ (f : List ℕ) (m : Module) (lo : ℕ) where
             let l = reached here in
             rw q (put (omega arith) here (w .0) (w .1))
         go false here told q = rw q (skipped here)
+
+-- ---- what is told
+
+module _ (f : List ℕ) (m : Module) (n : ℕ) where
+  pub tells-none : (v : Told) → v .item ≡ 0 → Tells f m n v
+  tells-none v e = record { few = omega arith; apart = λ i j l u. absurd (omega arith) }
+
+  pub tells-less : (k : ℕ) (v : Told) → k ≤ n → Tells f m k v → Tells f m n v
+  tells-less k v l t = let few = t .few in record { few = omega arith; apart = t .apart }
 
 -- ---- an entry, by its fields; a packed place
 

@@ -15,7 +15,7 @@ use Rattle.places.specs.Ahead.{ahead, Standing, Next, Reached, Comes}
 use Rattle.places.specs.declared.Run.{Run}
 use Rattle.places.proofs.Laws.{standingAt}
 use Rattle.places.proofs.ItemLaws.{reached-start, reached-more, come-next}
-use Rattle.apart.specs.Apart.{Met, Apart, Spread, Within, Walkable}
+use Rattle.apart.specs.Apart.{Met, Apart, Spread, Tells, Within, Walkable}
 use Rattle.apart.proofs.Laws.{spread-next, met-packed}
 
 module _ (f : List ℕ) (m : Module) (lo n : ℕ) where
@@ -40,8 +40,12 @@ module _ (f : List ℕ) (m : Module) (lo n : ℕ) where
         let behind = w .behind in
         (s .standing, reached-more f m run run (i - m .relocations .entries) s (walkable .counted) (omega arith))
 
-    pub packing-end : n ≤ i → (n ≤ m .relocations .entries → Apart f m n) → Apart f m n
-    packing-end l entries = ⊎-elim entries all (le-or-lt n (m .relocations .entries))
+    -- it stops at a place, or not
+    pub packing-stop : (place : ℕ) → i < n → Tells f m n (record { item = i; place = place })
+    packing-stop place l = record { few = omega arith; apart = w .spread (omega arith) .apart }
+
+    pub packing-end : n ≤ i → (n ≤ m .relocations .entries → Apart f m n) → Tells f m n (record { item = n; place = 0 })
+    packing-end l entries = record { few = omega arith; apart = ⊎-elim entries all (le-or-lt n (m .relocations .entries)) }
       where
         all : m .relocations .entries < n → Apart f m n
         all u =

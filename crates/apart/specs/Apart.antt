@@ -13,6 +13,7 @@ use Rattle.places.specs.Ahead.{placeLimit}
 use Rattle.items.specs.Table.{Inside}
 use Rattle.marks.specs.Map.{shares}
 use Rattle.bits.specs.Bits.{has, withWord}
+use Rattle.apart.specs.declared.Told.{Told}
 
 -- bytes of the maps
 abbrev pub smallMap : ℕ
@@ -47,6 +48,11 @@ module _ (f : List ℕ) (m : Module) where
     pub whole : (i : ℕ) → i < n → live f m i ≡ true → (placeAt f m i - lo) % 8 ≡ 0
     pub filled : (i : ℕ) → i < n → live f m i ≡ true → has map ((placeAt f m i - lo) / 8) ≡ true
     pub apart : Apart n
+
+  -- items are told apart: as many as there are before the one that is given
+  pub record Tells (n : ℕ) (v : Told) : Type 0 where
+    pub few : v .item ≤ n
+    pub apart : Apart (v .item)
 
   -- a map of so many bytes, for words from lo on, reaches the first n items
   pub record Within (lo bytes n : ℕ) : Type 0 where

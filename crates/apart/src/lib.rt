@@ -1,5 +1,5 @@
-// Whether places share no byte, told by a map of the words that they fill: one pass, and a bit a word. It tells so of places that are all
-// a whole number of words apart; of others a search has to.
+// How many items share no byte, told by a map of the words that their places fill: one pass, and a bit a word. It tells as far as the places
+// are a whole number of words apart and none fills a word that an earlier one does; behind that a search has to.
 ghost use mathlib.Core.Path.{_≡_};
 ghost use mathlib.Core.Bool.{true, not};
 ghost use Prim.Native.Nat.{_+_, _*_, _-_, _≤_, _<_};
@@ -7,10 +7,16 @@ ghost use lib.Dec.{eqb};
 ghost use lib.ListN.{length};
 ghost use Rattle.rules.specs.Bytes.{le};
 ghost use Rattle.items.specs.Table.{Inside, Bounded};
-ghost use Rattle.apart.specs.Apart.{smallMap, middleMap, largeMap, Met, Apart, Spread, Within, Walkable};
+ghost use Rattle.apart.specs.Apart.{smallMap, middleMap, largeMap, Met, Apart, Spread, Tells, Within, Walkable};
 use items::ENTRY_BYTES;
 use places::START;
 use rules::Module;
+
+// The items before one are told apart. Where that is not the end, its place is given, which is not.
+pub struct Told {
+    pub item: u32,
+    pub place: u64,
+}
 
 // Bytes of the maps; each reaches 64 times as many of memory, which is so many times what the next smaller one does.
 const SMALL_MAP: usize = 1024;
@@ -59,26 +65,30 @@ fn meet_entry(map: &mut [u8], f: &[u8], at: usize, lo: u64) -> bool
     meet_place(map, reads::le64(f, at) - lo)
 }
 
-// The first n entries are told apart; then the map has their words.
-fn spread_entries(map: &mut [u8], f: &[u8], m: Module, n: u32, lo: u64) -> bool
+// How many of the first n entries are told apart; where all are, the map has their words.
+fn spread_entries(map: &mut [u8], f: &[u8], m: Module, n: u32, lo: u64) -> Told
     requires { ⌜ Inside (now f) m × (n ≤ m .relocations .entries) × Within (now f) m lo (length (now map)) n ⌝ }
-    ensures { λ r. ⌜ (r ≡ true → Spread (now (f .entry)) m lo n (now (map .exit))) ⌝ }
+    ensures tells { λ v. ⌜ Tells (now (f .entry)) m n v ⌝ }
+    ensures spread { λ v. ⌜ (v .item ≡ n → Spread (now (f .entry)) m lo n (now (map .exit))) ⌝ }
 {
     let mut i: u32 = 0;
     while i < n {
         let at = m.relocations.at as usize + ENTRY_BYTES * (i as usize);
         if meet_entry(map, f, at, lo) {
-            return false;
+            return Told {
+                item: i,
+                place: reads::le64(f, at),
+            };
         }
         i += 1;
     }
-    true
+    Told { item: n, place: 0 }
 }
 
-// The first n items are told apart, where the entries among them are and the map has their words.
-fn spread_packed(map: &mut [u8], f: &[u8], m: Module, n: u32, lo: u64) -> bool
+// How many of the first n items, where the entries among them are told apart and the map has their words.
+fn spread_packed(map: &mut [u8], f: &[u8], m: Module, n: u32, lo: u64) -> Told
     requires { ⌜ Walkable (now f) m n × Within (now f) m lo (length (now map)) n × (n ≤ m .relocations .entries → Apart (now f) m n) × (m .relocations .entries ≤ n → Spread (now f) m lo (m .relocations .entries) (now map)) ⌝ }
-    ensures { λ r. ⌜ (r ≡ true → Apart (now (f .entry)) m n) ⌝ }
+    ensures { λ v. ⌜ Tells (now (f .entry)) m n v ⌝ }
 {
     let mut run = START;
     let mut i = m.relocations.entries;
@@ -90,45 +100,49 @@ fn spread_packed(map: &mut [u8], f: &[u8], m: Module, n: u32, lo: u64) -> bool
             run = places::next_place(f, t, run);
         }
         if meet_place(map, run.place - lo) {
-            return false;
+            return Told {
+                item: i,
+                place: run.place,
+            };
         }
         i += 1;
     }
-    true
+    Told { item: n, place: 0 }
 }
 
-// The first n items are told apart, with a map that reaches them.
-fn spread_items(map: &mut [u8], f: &[u8], m: Module, n: u32, lo: u64) -> bool
+// How many of the first n items, with a map that reaches them.
+fn spread_items(map: &mut [u8], f: &[u8], m: Module, n: u32, lo: u64) -> Told
     requires { ⌜ Walkable (now f) m n × Within (now f) m lo (length (now map)) n ⌝ }
-    ensures { λ r. ⌜ (r ≡ true → Apart (now (f .entry)) m n) ⌝ }
+    ensures { λ v. ⌜ Tells (now (f .entry)) m n v ⌝ }
 {
     let k = least(n, m.relocations.entries);
-    if !spread_entries(map, f, m, k, lo) {
-        return false;
+    let told = spread_entries(map, f, m, k, lo);
+    if told.item < k {
+        return told;
     }
     spread_packed(map, f, m, n, lo)
 }
 
 // The same with a map of its own, by its size.
-fn apart_small(f: &[u8], m: Module, n: u32, lo: u64) -> bool
+fn apart_small(f: &[u8], m: Module, n: u32, lo: u64) -> Told
     requires { ⌜ Walkable (now f) m n × Within (now f) m lo smallMap n ⌝ }
-    ensures { λ r. ⌜ (r ≡ true → Apart (now (f .entry)) m n) ⌝ }
+    ensures { λ v. ⌜ Tells (now (f .entry)) m n v ⌝ }
 {
     let mut map = [0u8; SMALL_MAP];
     spread_items(&mut map, f, m, n, lo)
 }
 
-fn apart_middle(f: &[u8], m: Module, n: u32, lo: u64) -> bool
+fn apart_middle(f: &[u8], m: Module, n: u32, lo: u64) -> Told
     requires { ⌜ Walkable (now f) m n × Within (now f) m lo middleMap n ⌝ }
-    ensures { λ r. ⌜ (r ≡ true → Apart (now (f .entry)) m n) ⌝ }
+    ensures { λ v. ⌜ Tells (now (f .entry)) m n v ⌝ }
 {
     let mut map = [0u8; MIDDLE_MAP];
     spread_items(&mut map, f, m, n, lo)
 }
 
-fn apart_large(f: &[u8], m: Module, n: u32, lo: u64) -> bool
+fn apart_large(f: &[u8], m: Module, n: u32, lo: u64) -> Told
     requires { ⌜ Walkable (now f) m n × Within (now f) m lo largeMap n ⌝ }
-    ensures { λ r. ⌜ (r ≡ true → Apart (now (f .entry)) m n) ⌝ }
+    ensures { λ v. ⌜ Tells (now (f .entry)) m n v ⌝ }
 {
     let mut map = [0u8; LARGE_MAP];
     spread_items(&mut map, f, m, n, lo)
@@ -136,9 +150,9 @@ fn apart_large(f: &[u8], m: Module, n: u32, lo: u64) -> bool
 
 // The same with the smallest map that reaches them, where one of a reach does. It calls itself so that the larger maps are not in the frames
 // of its callers.
-fn apart_within(f: &[u8], m: Module, n: u32, low: u64, top: u64, reach: u64) -> bool
+fn apart_within(f: &[u8], m: Module, n: u32, low: u64, top: u64, reach: u64) -> Told
     requires { ⌜ Walkable (now f) m n × Bounded (now f) m n low top × (low ≤ top) × (top - low < reach) × (reach ≤ 64 * largeMap) ⌝ }
-    ensures { λ r. ⌜ (r ≡ true → Apart (now (f .entry)) m n) ⌝ }
+    ensures { λ v. ⌜ Tells (now (f .entry)) m n v ⌝ }
 {
     if reach <= SMALL {
         return apart_small(f, m, n, low);
@@ -152,13 +166,16 @@ fn apart_within(f: &[u8], m: Module, n: u32, low: u64, top: u64, reach: u64) -> 
     apart_large(f, m, n, low)
 }
 
-// The first n items are told apart. Their places are from low to top.
-pub fn are_apart(f: &[u8], m: Module, n: u32, low: u64, top: u64) -> bool
+// How many of the first n items, whose places are from low to top; none that are too far apart for every map.
+pub fn tell_apart(f: &[u8], m: Module, n: u32, low: u64, top: u64) -> Told
     requires { ⌜ Walkable (now f) m n × Bounded (now f) m n low top × (low ≤ top) ⌝ }
-    ensures { λ r. ⌜ (r ≡ true → Apart (now (f .entry)) m n) ⌝ }
+    ensures { λ v. ⌜ Tells (now (f .entry)) m n v ⌝ }
 {
     if top - low < LARGE {
         return apart_within(f, m, n, low, top, LARGE);
     }
-    false
+    Told {
+        item: 0,
+        place: low,
+    }
 }

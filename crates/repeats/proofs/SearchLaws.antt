@@ -153,3 +153,19 @@ module _ (f : List ℕ) (m : Module) where
             let q = s .none i (r .other) (r .before) l (r .here) (r .there) (r .near) in
             absurd (omega arith)
         go i l false e = e
+
+    -- the item after those that are told apart, where it repeats in a window
+    pub found-next : (k lo size : ℕ) (v : Lowest) → k < n → Apart f m k → Finds f m lo size (record { item = k + 1; position = 0 }) v
+        → v .item ≤ k → Lowers f m n v
+    found-next k lo size v l apart w e = record {
+      lowest = least-first (repeats f m) n (v .item) (record {
+        few = omega arith;
+        holds = λ _. repeats-window lo size (v .item) (w .lowest .holds (omega arith));
+        none = λ i u. go i u (repeats f m i) refl;
+      });
+      reported = λ _. w .reported (omega arith);
+    }
+      where
+        go : (i : ℕ) → i < v .item → (b : Bool) → repeats f m i ≡ b → repeats f m i ≡ false
+        go i u true q = let r = repeats-pair i q in absurd (apart i (r .other) (r .before) (omega arith) (r .here) (r .there) (r .near))
+        go i u false q = q

@@ -1,7 +1,7 @@
 // The lowest item whose place shares a byte with an earlier one's: the places are put into a map one after the other.
 ghost use mathlib.Core.Path.{_≡_};
 ghost use mathlib.Core.Bool.{true};
-ghost use Prim.Native.Nat.{ℕ, _+_, _≤_};
+ghost use Prim.Native.Nat.{ℕ, _+_, _-_, _≤_, _<_};
 ghost use lib.ListN.{length};
 ghost use Rattle.rules.specs.Limits.{memoryLimit};
 ghost use Rattle.rules.specs.Packed.{packedBefore};
@@ -100,7 +100,8 @@ fn find_in(f: &[u8], m: Module, found: Lowest, lo: u64) -> Lowest
 // that no map is in the frames of its callers.
 fn find_windows(f: &[u8], m: Module, found: Lowest, low: u64, top: u64) -> Lowest
     requires { ⌜ Walkable (now f) m (found .item) × (low ≤ top) × (top ≤ memoryLimit) ⌝ }
-    ensures { λ v. ⌜ ((n : ℕ) → Searched (now (f .entry)) m n low found → Searched (now (f .entry)) m n (top + 1) v) ⌝ }
+    ensures finds { λ v. ⌜ (top - low < small → Finds (now (f .entry)) m low (small + overlap) found v) ⌝ }
+    ensures searches { λ v. ⌜ ((n : ℕ) → Searched (now (f .entry)) m n low found → Searched (now (f .entry)) m n (top + 1) v) ⌝ }
 {
     if top - low < SMALL {
         return find_small(f, m, found, low);
@@ -112,24 +113,49 @@ fn find_windows(f: &[u8], m: Module, found: Lowest, low: u64, top: u64) -> Lowes
     find_windows(f, m, here, low + LARGE, top)
 }
 
+// From low to top: where the bytes before a place begin at which one that shares a byte with it may start.
+fn around(place: u64, low: u64, top: u64) -> u64
+    requires { ⌜ (low ≤ top) × (top ≤ memoryLimit) ⌝ }
+    ensures { λ r. ⌜ (low ≤ r) × (r ≤ top) ⌝ }
+{
+    if top < place {
+        return low;
+    }
+    if place < low + 8 {
+        return low;
+    }
+    place - 8
+}
+
 // The lowest of the first n items whose place shares a byte with an earlier one's; n where there is none. The places are from low to top;
-// where they are known to rise, none is met twice and no map is needed.
+// where they are known to rise, none is met twice and no map is needed. The items that are told apart are passed over: the next one repeats
+// if it does so around its place, and else all windows are searched.
 pub fn find_repeat(f: &[u8], m: Module, n: u32, low: u64, top: u64, rising: bool) -> Lowest
     requires { ⌜ Inside (now f) m × (n ≤ items m) × (m .packed .places ≡ length (packedBefore (now f) (m .packed .at) (m .packed .words))) × Bounded (now f) m n low top × (top ≤ memoryLimit) × (rising ≡ true → Rising (now f) m n) ⌝ }
     ensures { λ v. ⌜ Lowers (now (f .entry)) m n v ⌝ }
 {
-    let found = Lowest {
+    let none = Lowest {
         item: n,
         position: 0,
     };
     if rising {
-        return found;
+        return none;
     }
     if top < low {
-        return found;
+        return none;
     }
-    if apart::are_apart(f, m, n, low, top) {
-        return found;
+    let told = apart::tell_apart(f, m, n, low, top);
+    if told.item == n {
+        return none;
     }
-    find_windows(f, m, found, low, top)
+    let next = Lowest {
+        item: told.item + 1,
+        position: 0,
+    };
+    let at = around(told.place, low, top);
+    let here = find_windows(f, m, next, at, at);
+    if here.item <= told.item {
+        return here;
+    }
+    find_windows(f, m, none, low, top)
 }

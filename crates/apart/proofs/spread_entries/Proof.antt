@@ -1,11 +1,10 @@
 -- The loop keeps that the entries so far are told apart, and that the map has their words.
 -- Assumes nothing.
 use Prim.Native.Nat.{_-_, _≤_}
-use mathlib.Core.Path.{_≡_, refl, sym, _∙_}
+use mathlib.Core.Path.{_≡_, refl, _∙_}
 use native.Mathlib.Omega.{arith}
 use lib.ListN.{length}
 use borrow.Author.Needs.{needs}
-use Rattle.rules.proofs.OutcomeLaws.{true-false}
 use Rattle.apart.specs.Apart.{Spread}
 use Rattle.apart.proofs.Laws.{spread-none, spread-next, entry-within, met-entry}
 use Rattle.apart.proofs.spread_entries.Statement.{statement}
@@ -32,7 +31,9 @@ meet-entry-requires c κs =
     (omega (arith, S .pre .0), entry-within (a .f .now) (a .m) (a .lo) (l .i) (length (l .map)) (a .n) (omega arith) (omega arith) w)
 
 returns : tie.Need-returns Inv-loop μ-loop
-returns c = λ e. absurd (true-false (sym e))
+returns c =
+    let l = c .before .before .before .before .before .before .before .before .loop in
+    (record { few = omega arith; apart = l .inv .2 .apart }, λ q. absurd (omega arith))
 
 loop-again : tie.Need-loop-again Inv-loop μ-loop
 loop-again c =
@@ -55,7 +56,8 @@ returns-2 c =
     let a = c .before .before .before .before .args in
     let few = l .inv .0 in
     let all : l .i ≡ a .n = omega arith in
-    λ _. rw (← all) (l .inv .2)
+    let spread = rw all at (l .inv .2) in
+    (record { few = omega arith; apart = spread .apart }, λ _. spread)
 
 pub spread-entries-spec : {M : Type 1} → statement M
 spread-entries-spec =
@@ -69,6 +71,7 @@ spread-entries-spec =
     (search needs)
     (search needs)
     meet-entry-requires
+    (search needs)
     (search needs)
     returns
     (search needs)

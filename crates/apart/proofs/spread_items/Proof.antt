@@ -1,13 +1,11 @@
 -- The entries first, then the packed places.
 -- Assumes nothing.
 use Prim.Native.Nat.{ℕ}
-use mathlib.Core.Path.{sym, subst}
+use mathlib.Core.Path.{subst}
 use native.Mathlib.Omega.{arith}
 use borrow.Author.Needs.{needs}
-use borrow.Author.Tests.{not-false}
-use Rattle.rules.proofs.OutcomeLaws.{true-false}
 use Rattle.apart.specs.Apart.{Apart, Spread}
-use Rattle.apart.proofs.Laws.{within-less}
+use Rattle.apart.proofs.Laws.{within-less, tells-less}
 use Rattle.apart.proofs.spread_items.Statement.{statement}
 use Rattle.apart.proofs.spread_items.Tie as tie
 
@@ -20,17 +18,23 @@ spread-entries-requires c κs =
     (S .pre .0 .inside, least .1, within-less (a .f .now) (a .m) (a .lo) _ (a .n) (N .least .result) (least .0) (S .pre .1))
 
 returns : tie.Need-returns
-returns c = λ e. absurd (true-false (sym e))
+returns c =
+    let M = c .before .before .before .before in
+    let N = M .before .before in
+    let a = N .before .before .before .args in
+    tells-less (a .f .now) (a .m) (a .n) (N .least .result) _ (N .least .ensures .0) (M .spread-entries .ensures .0)
 
 spread-packed-requires : tie.Need-spread-packed-requires
 spread-packed-requires c κs =
     let E = c .before in
-    let M = E .before .before .before in
+    let M = E .before .before .before .before in
     let N = M .before .before in
     let S = N .before .before .before in
     let a = S .args in
     let least = N .least .ensures in
-    let spread = M .spread-entries .ensures (not-false _ (E .if1 .left)) in (
+    let few = M .spread-entries .ensures .0 .few in
+    let rest = E .if1 .left in
+    let spread = M .spread-entries .ensures .1 (omega arith) in (
       S .pre .0,
       rw (M .spread-entries .kept .0) (S .pre .1),
       λ l. subst (λ (k : ℕ). Apart (a .f .now) (a .m) k) (least .2 l) (spread .apart),

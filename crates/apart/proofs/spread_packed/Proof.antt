@@ -1,14 +1,13 @@
 -- The loop keeps that the items so far are told apart, that the map has their words, and that the run stands before the next.
 -- Assumes nothing.
 use Prim.Native.Nat.{_-_}
-use mathlib.Core.Path.{_≡_, refl, sym, _∙_}
+use mathlib.Core.Path.{_≡_, refl, _∙_}
 use mathlib.Core.Logic.{⊎-elim}
 use native.Mathlib.Omega.{arith}
 use lib.ListN.{length}
 use borrow.Author.Needs.{needs}
-use Rattle.rules.proofs.OutcomeLaws.{true-false}
 use Rattle.places.specs.Ahead.{Next}
-use Rattle.apart.proofs.PackedLaws.{Packing, packing-start, packing-more, packing-within, packing-next, packing-end}
+use Rattle.apart.proofs.PackedLaws.{Packing, packing-start, packing-more, packing-within, packing-next, packing-stop, packing-end}
 use Rattle.apart.proofs.spread_packed.Statement.{statement}
 use Rattle.apart.proofs.spread_packed.Tie as tie
 
@@ -66,7 +65,13 @@ meet-place-requires c κs =
     packing-within (a .f .now) (a .m) (a .lo) (a .n) (S .pre .0) (l .map) (l .run) (l .i) (l .inv .1) (omega arith) within (N .if1 .run) next .1
 
 returns : tie.Need-returns Inv-loop μ-loop
-returns c = λ e. absurd (true-false (sym e))
+returns c =
+    let N = c .before .before .before .before .before .before in
+    let L = N .before .before .before .before in
+    let S = L .before .before .before in
+    let a = S .args in
+    let l = L .loop in
+    packing-stop (a .f .now) (a .m) (a .lo) (a .n) (S .pre .0) (l .map) (l .run) (l .i) (l .inv .1) (N .if1 .run .place) (omega arith)
 
 loop-again : tie.Need-loop-again Inv-loop μ-loop
 loop-again c =
@@ -90,7 +95,7 @@ returns-2 c =
     let S = L .before .before .before in
     let a = S .args in
     let l = L .loop in
-    λ _. packing-end (a .f .now) (a .m) (a .lo) (a .n) (S .pre .0) (l .map) (l .run) (l .i) (l .inv .1) (omega arith) (S .pre .2)
+    packing-end (a .f .now) (a .m) (a .lo) (a .n) (S .pre .0) (l .map) (l .run) (l .i) (l .inv .1) (omega arith) (S .pre .2)
 
 pub spread-packed-spec : {M : Type 1} → statement M
 spread-packed-spec =

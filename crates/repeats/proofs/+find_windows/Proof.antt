@@ -38,8 +38,11 @@ small-returns t c =
     let S = T .before .before in
     let a = S .args in
     let near = T .if1 .taken in
-    λ n s. searched-next (a .f .now) (a .m) n (a .low) (small + overlap) (a .top + 1) (a .found) (c .find-small .result) (omega arith) s
-    (c .find-small .ensures)
+    (
+      λ _. c .find-small .ensures,
+      λ n s. searched-next (a .f .now) (a .m) n (a .low) (small + overlap) (a .top + 1) (a .found) (c .find-small .result) (omega arith) s
+          (c .find-small .ensures),
+    )
 
 last-returns : (t : ℕ) → find-windows-lts.Need-returns-2 (
   find-small-reads.Asked,
@@ -54,8 +57,12 @@ last-returns t c =
     let S = B .before .before .before in
     let a = S .args in
     let near = c .if2 .taken in
-    λ n s. searched-next (a .f .now) (a .m) n (a .low) (large + overlap) (a .top + 1) (a .found) (B .find-in .result) (omega arith) s
-    (B .find-in .ensures)
+    let some = B .before .if1 .left in
+    (
+      λ l. absurd (omega arith),
+      λ n s. searched-next (a .f .now) (a .m) n (a .low) (large + overlap) (a .top + 1) (a .found) (B .find-in .result) (omega arith) s
+          (B .find-in .ensures),
+    )
 
 windows-requires : (t : ℕ) → find-windows-lts.Need-find-windows-requires (
   find-small-reads.Asked,
@@ -92,9 +99,13 @@ windows-returns t c =
     let B = E .before in
     let S = B .before .before .before in
     let a = S .args in
-    λ n s. c .find-windows .ensures n
-    (searched-next (a .f .now) (a .m) n (a .low) (large + overlap) (a .low + large) (a .found) (B .find-in .result) (omega arith) s
-    (B .find-in .ensures))
+    let some = B .before .if1 .left in
+    (
+      λ l. absurd (omega arith),
+      λ n s. c .find-windows .ensures .1 n
+          (searched-next (a .f .now) (a .m) n (a .low) (large + overlap) (a .low + large) (a .found) (B .find-in .result) (omega arith) s
+          (B .find-in .ensures)),
+    )
 
 pub +find-windows-spec : {M : Type 1} → statement M
 +find-windows-spec = close μ-find-windows λ t. find-windows-lts.spec (
