@@ -4,7 +4,8 @@
  * returns, allocates, or calls back. Buffers lent to one call must not overlap each other. A pointer of
  * length 0 is not read or written and may be null; a null pointer with another length is an error of the
  * caller. The calls may be made from several threads at once on buffers that are not shared. Examine, the facts and the
- * load need at most 72 KiB of stack, and 6 KiB where the places of the relocations rise or lie within 64 KiB.
+ * load need at most 258 KiB of stack: 6 KiB where the places of the relocations rise or lie within 64 KiB, 18 KiB where
+ * they lie within 1 MiB.
  *
  * The answer of examine and of the load is one 64-bit number:
  *   taken:    globals * 256

@@ -12,25 +12,27 @@ use items::ENTRY_BYTES;
 use places::START;
 use rules::Module;
 
-// The items before one are told apart. Where that is not the end, its place is given, which is not.
+// The items before one are told apart. Where there is one, its place is given: it was not told apart from them.
 pub struct Told {
     pub item: u32,
     pub place: u64,
 }
 
-// Bytes of the maps; each reaches 64 times as many of memory, which is so many times what the next smaller one does.
+// Bytes of the maps.
 const SMALL_MAP: usize = 1024;
 
 const MIDDLE_MAP: usize = 16384;
 
 const LARGE_MAP: usize = 262144;
 
-const SMALL: u64 = 65536;
+// The bytes of memory that they reach, 64 for each of their own; the largest reaches all that a module may have.
+const SMALL: u64 = 64 * (SMALL_MAP as u64);
 
-const MIDDLE: u64 = 1048576;
+const MIDDLE: u64 = 64 * (MIDDLE_MAP as u64);
 
-const LARGE: u64 = 16777216;
+const LARGE: u64 = 64 * (LARGE_MAP as u64);
 
+// A map reaches so many times what the next smaller one does.
 const STEP: u64 = 16;
 
 // The lesser.

@@ -51,7 +51,10 @@ fn put_case(f: &mut [u8], case: u32) {
         return;
     }
     if case == 2 {
-        io::write_all(STDOUT_FILENO, b"65536 relocations, the last at the first place: ");
+        io::write_all(
+            STDOUT_FILENO,
+            b"65536 relocations, the last at the first place: ",
+        );
         bench_images::put_repeated(f, MEMORY as u64, entries, 0x10c0);
         return;
     }
@@ -75,13 +78,7 @@ fn put_case(f: &mut [u8], case: u32) {
 }
 
 // Loads the image of a case; the word is that of the last place.
-fn run_lent(
-    f: &mut [u8],
-    case: u32,
-    memory: &mut [u8],
-    plane: &mut [u8],
-    choices: &mut [u8],
-) {
+fn run_lent(f: &mut [u8], case: u32, memory: &mut [u8], plane: &mut [u8], choices: &mut [u8]) {
     put_case(f, case);
     if case < FIRST_OF_GLOBALS {
         bench_runs::run_load(f, BIAS, memory, plane, b"\x03\x09\x05", LAST);

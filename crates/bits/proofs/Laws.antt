@@ -61,6 +61,7 @@ above w k m e =
   where
     one : k + 1 + m ≡ k + suc m
     one = omega arith
+
     tail : (x : ℕ) → x / 2 ^ k / 2 / 2 ^ m ≡ x / 2 ^ (k + suc m)
     tail x = ap (λ (y : ℕ). y / 2 ^ m) (shr-shr x k 1) ∙ shr-shr x (k + 1) m ∙ ap (λ (y : ℕ). x / 2 ^ y) one
 
@@ -70,11 +71,13 @@ stays w j k e h = ⊎-elim (λ (l : k ≤ j). ⊎-elim equal higher (eq-or-lt-of
   where
     equal : k ≡ j → (w + 2 ^ k) / 2 ^ j % 2 ≡ 1
     equal q = absurd (let z : w / 2 ^ j % 2 ≡ 0 = rw (← q) e in omega arith)
+
     higher : k < j → (w + 2 ^ k) / 2 ^ j % 2 ≡ 1
     higher l =
         let n : k + suc (j - k - 1) ≡ j = omega arith in
         let same-high : (w + 2 ^ k) / 2 ^ j ≡ w / 2 ^ j = subst (λ (x : ℕ). (w + 2 ^ k) / 2 ^ x ≡ w / 2 ^ x) n (above w k (j - k - 1) e) in
         ap (λ (x : ℕ). x % 2) same-high ∙ h
+
     lower : j < k → (w + 2 ^ k) / 2 ^ j % 2 ≡ 1
     lower l =
         let n : j + suc (k - j - 1) ≡ k = omega arith in

@@ -47,7 +47,7 @@ Before f m j k =
     (positionAt f m j < positionAt f m k) ⊎ ((positionAt f m j ≡ positionAt f m k) × (placeAt f m j < placeAt f m k))
 
 -- the packed places of a module: each is named by a word, and each that a word names is there, in the order of the words and, at one
--- word, of the bits; none is skipped; the facts count them with the entries not skipped; with the entries they are at most 1,024
+-- word, of the bits; none is skipped; the facts count them with the entries not skipped; with the entries they are no more than is allowed
 pub record Packs (f : List ℕ) (m : Module) : Type 0 where
   pub named-by : (k : ℕ) → IsPacked m k → (w : ℕ) × NamedBy f m k w
   pub all-listed : (w p : ℕ) → w < m .packed .words → Names f (m .packed .at) w p → Listed f m w p

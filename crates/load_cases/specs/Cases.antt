@@ -86,7 +86,7 @@ takenCases =
     ∷ []
 
 -- lending: the bias no multiple of 4,096; bias and memory past 2^48; memory before the last end, no multiple of 16, past its
--- limit; the plane one short and one long; 11 before 12
+-- limit, at its limit, and at its limit with the last PT_LOAD's end there too; the plane one short and one long; 11 before 12
 abbrev pub lendingCases : List Case
 lendingCases =
     unlent 0x40000800 720 45 12
@@ -94,6 +94,8 @@ lendingCases =
     ∷ unlent bias 704 44 12
     ∷ unlent bias 728 45 12
     ∷ unlent bias 16777232 1048577 12
+    ∷ lent sample bias 16777216 1048576 (5 ∷ 9 ∷ 3 ∷ []) (good (factsWith 3 3))
+    ∷ lent (with sample (header 1 + 40) 8 16776560) bias 16777216 1048576 (5 ∷ 9 ∷ 3 ∷ []) (good (factsWith 3 3))
     ∷ unlent bias 720 44 12
     ∷ unlent bias 720 46 12
     ∷ lent (with sample (entry 0) 8 660) 0x40000800 720 45 (5 ∷ 9 ∷ 3 ∷ []) (refuse 11 0)

@@ -12,7 +12,7 @@ use Rattle.rules.specs.Bytes.{le}
 use Rattle.rules.specs.First.{faultless}
 use Rattle.rules.specs.declared.Headers.{Headers}
 
--- check 1: a file of 64 to 1,048,576 bytes
+-- check 1: a file that is neither too short nor too long
 unfoldable pub sizeCheck : List ℕ → Check
 sizeCheck f = require (leb fileLeast (length f) && leb (length f) fileLimit) 1 0
 

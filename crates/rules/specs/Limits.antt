@@ -1,4 +1,4 @@
--- The limits of document 01, each by name.
+-- The limits of document 01, each by name; file, memory, relocations and globals as document 02's request 5 has them.
 -- Assumes nothing.
 use Prim.Native.Nat.{ℕ, _^_}
 

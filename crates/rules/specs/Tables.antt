@@ -49,7 +49,7 @@ descriptorAddress f d = orZero (entryOf f d memtagGlobals)
 abbrev pub descriptorBytes : List ℕ → Dynamic → ℕ
 descriptorBytes f d = orZero (entryOf f d memtagGlobalsSize)
 
--- check 7: the relocation table not backed or of over 1,024 entries
+-- check 7: the relocation table not backed or of too many entries
 unfoldable pub relocationsOf : List ℕ → Headers → Dynamic → Outcome Relocations
 relocationsOf f h d =
     andThen (backed 7 0 (tableBacking f h (relaAddress f d) (relaBytes f d))) (λ at.

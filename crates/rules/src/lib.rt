@@ -3,7 +3,7 @@
 // Global descriptors: the reading of one at a cursor. A method stands in the crate of its struct.
 pub mod encoding;
 
-// The limits of document 01, each by name.
+// The limits of document 01, each by name; file, memory, relocations and globals as document 02's request 5 has them.
 
 // The shortest and the longest file.
 pub const FILE_LEAST: u64 = 64;

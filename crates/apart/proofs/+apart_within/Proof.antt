@@ -101,7 +101,7 @@ pub +apart-within-spec : {M : Type 1} → statement M
   apart-middle-reads.Learnt,
   apart-large-reads.Asked,
   apart-large-reads.Learnt,
-) 
+)
     (apart-within-at t)
     apart-within.Post
     (small-requires t)

@@ -37,8 +37,7 @@ small-returns t c =
     let T = c .before in
     let S = T .before .before in
     let a = S .args in
-    let near = T .if1 .taken in
-    (
+    let near = T .if1 .taken in (
       λ _. c .find-small .ensures,
       λ n s. searched-next (a .f .now) (a .m) n (a .low) (small + overlap) (a .top + 1) (a .found) (c .find-small .result) (omega arith) s
           (c .find-small .ensures),
@@ -57,8 +56,7 @@ last-returns t c =
     let S = B .before .before .before in
     let a = S .args in
     let near = c .if2 .taken in
-    let some = B .before .if1 .left in
-    (
+    let some = B .before .if1 .left in (
       λ l. absurd (omega arith),
       λ n s. searched-next (a .f .now) (a .m) n (a .low) (large + overlap) (a .top + 1) (a .found) (B .find-in .result) (omega arith) s
           (B .find-in .ensures),
@@ -99,8 +97,7 @@ windows-returns t c =
     let B = E .before in
     let S = B .before .before .before in
     let a = S .args in
-    let some = B .before .if1 .left in
-    (
+    let some = B .before .if1 .left in (
       λ l. absurd (omega arith),
       λ n s. c .find-windows .ensures .1 n
           (searched-next (a .f .now) (a .m) n (a .low) (large + overlap) (a .low + large) (a .found) (B .find-in .result) (omega arith) s
