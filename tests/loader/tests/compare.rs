@@ -79,8 +79,10 @@ fn wrong_words_are_told() {
 fn the_bench_images_are_taken() {
     let (code, text) = run(BENCH, &["--against", "self", "--rounds", "3"]);
     assert_eq!(code, Some(0), "{text}");
-    assert_eq!(text.matches("| load |").count(), 9, "{text}");
-    assert_eq!(text.matches("| best |").count(), 11, "{text}");
-    assert_eq!(text.matches("| median |").count(), 11, "{text}");
+    assert_eq!(text.matches("| load |").count(), 14, "{text}");
+    assert_eq!(text.matches("KiB, places rising |").count(), 3, "{text}");
+    assert_eq!(text.matches("refused by 11 |").count(), 2, "{text}");
+    assert_eq!(text.matches("| best |").count(), 19, "{text}");
+    assert_eq!(text.matches("| median |").count(), 19, "{text}");
     assert_eq!(text.matches("globals").count(), 5, "{text}");
 }
