@@ -44,7 +44,7 @@ fn see_places(f: &[u8], m: Module, bias: u64, entries: Tally) -> Seen
         }
         let position = packed_position(f, m, run, i);
         if clear::is_clear_place(f, h, bias, part, run.place) {
-            t = tallies::tally_place(t, run.place, false, position);
+            t = tallies::tally_clear(t, run.place);
         } else {
             let e = judging::judge_packed(f, m, bias, span, run.place);
             if e.number != 0 {

@@ -87,7 +87,7 @@ fn is_rising(t: Tally, place: u64) -> bool
 }
 
 // The tally with one item more.
-pub fn tally_place(t: Tally, place: u64, outside: bool, position: u64) -> Tally
+fn tally_place(t: Tally, place: u64, outside: bool, position: u64) -> Tally
     requires { ⌜ (t .words < 4294967295) × (position < 8589934592) ⌝ }
     ensures { λ v. ⌜ Tallies t place outside position v ⌝ }
 {

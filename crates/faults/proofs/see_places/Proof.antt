@@ -82,8 +82,8 @@ is-clear-place-requires c κs =
     let L = c .before .before .before .before .before in
     (L .before .before .before .before .pre .0 .loads, L .loop .inv .2)
 
-tally-place-requires : tie.Need-tally-place-requires Inv-loop μ-loop
-tally-place-requires c κs =
+tally-clear-requires : tie.Need-tally-clear-requires Inv-loop μ-loop
+tally-clear-requires c κs =
     let Q = c .before .before in
     let L = Q .before .before .before .before .before in
     let S = L .before .before .before .before in
@@ -91,7 +91,7 @@ tally-place-requires c κs =
     let room = words-room (a .f .now) (a .m) (a .bias) (L .loop .i) (L .loop .t) (L .loop .inv .0 .tallied) in
     let few = S .pre .0 .few in
     let up = L .loop .inv .0 .below in
-    (omega arith, Q .packed-position .ensures .1)
+    (omega arith, L .loop .inv .0 .tallied .some)
 
 judge-packed-requires : tie.Need-judge-packed-requires Inv-loop μ-loop
 judge-packed-requires c κs =
@@ -152,7 +152,7 @@ loop-again c =
     let q = clear-packed (a .f .now) (a .m) (S .pre .0) (l .i) up (a .bias) _ (come .here .place up) (E .is-clear-place .ensures (quick .0 .taken)) in (
       rw (quick .2)
           (seeing-clear (a .f .now) (a .m) (S .pre .0) (a .bias) k (items (a .m)) (l .t) (l .i) (l .inv .0) (I .loop-test .taken) q _
-          (Q .packed-position .result) _ (sym (come .here .place up)) (Q .packed-position .ensures .0) (quick .1 .ensures)),
+          (Q .packed-position .result) _ (sym (come .here .place up)) (Q .packed-position .ensures .0) (quick .1 .ensures (Q .packed-position .result))),
       rw (quick .3) (l .inv .1),
       rw (quick .4) (l .inv .2),
       reached-on (a .f .now) (a .m) (S .pre .0) (l .i) up _ come (q .fits),
@@ -195,7 +195,7 @@ see-places-spec =
     next-place-requires
     packed-position-requires
     is-clear-place-requires
-    tally-place-requires
+    tally-clear-requires
     judge-packed-requires
     returns
     tally-judged-requires
