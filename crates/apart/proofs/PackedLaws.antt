@@ -18,6 +18,13 @@ use Rattle.places.proofs.ItemLaws.{reached-start, reached-more, come-next}
 use Rattle.apart.specs.Apart.{Met, Apart, Spread, Tells, Within, Walkable}
 use Rattle.apart.proofs.Laws.{spread-next, met-packed}
 
+-- among items that can be walked over there is a next packed place
+pub walkable-more : (f : List ℕ) (m : Module) (n : ℕ) (run : Run) (i : ℕ) → Walkable f m n → m .relocations .entries ≤ i → i < n
+    → Reached f m run (i - m .relocations .entries) → Standing f (m .packed) run × (0 < length (ahead f (m .packed) run))
+walkable-more f m n run i walkable behind l s =
+    let few = walkable .few in
+    (s .standing, reached-more f m run run (i - m .relocations .entries) s (walkable .counted) (omega arith))
+
 module _ (f : List ℕ) (m : Module) (lo n : ℕ) where
   -- before item i, where the walk goes on: the items below it are told apart, the map has their words, and the run stands before it
   pub record Packing (map : List ℕ) (run : Run) (i : ℕ) : Type 0 where
@@ -34,11 +41,7 @@ module _ (f : List ℕ) (m : Module) (lo n : ℕ) where
 
   module _ (walkable : Walkable f m n) (map : List ℕ) (run : Run) (i : ℕ) (w : Packing map run i) where
     pub packing-more : i < n → Standing f (m .packed) run × (0 < length (ahead f (m .packed) run))
-    packing-more l =
-        let s = w .reached (omega arith) in
-        let few = walkable .few in
-        let behind = w .behind in
-        (s .standing, reached-more f m run run (i - m .relocations .entries) s (walkable .counted) (omega arith))
+    packing-more l = walkable-more f m n run i walkable (w .behind) l (w .reached (omega arith))
 
     -- it stops at a place, or not
     pub packing-stop : (place : ℕ) → i < n → Tells f m n (record { item = i; place = place })

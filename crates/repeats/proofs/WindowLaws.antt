@@ -14,8 +14,9 @@ use Rattle.laws.proofs.Items.{entry-position, packed-live}
 use Rattle.places.specs.Ahead.{ahead, Standing, Next, Reached, Comes}
 use Rattle.places.specs.declared.Run.{Run}
 use Rattle.places.proofs.Laws.{standingAt}
-use Rattle.places.proofs.ItemLaws.{reached-start, reached-more, come-next}
+use Rattle.places.proofs.ItemLaws.{reached-start, come-next}
 use Rattle.apart.specs.Apart.{Walkable}
+use Rattle.apart.proofs.PackedLaws.{walkable-more}
 use Rattle.windows.specs.Window.{inWindow, Wide, Met, kept, repeatsIn, Holds, Walked}
 use Rattle.windows.proofs.LeastLaws.{least-hit, least-end, none-next}
 use Rattle.windows.proofs.Laws.{met-packed, met-repeats, met-holds}
@@ -49,11 +50,7 @@ module _ (f : List ℕ) (m : Module) (lo size : ℕ) (found : Lowest) where
 
   module _ (walkable : Walkable f m (found .item)) (map : List ℕ) (run : Run) (i : ℕ) (w : Packing map run i) where
     pub packing-more : i < found .item → Standing f (m .packed) run × (0 < length (ahead f (m .packed) run))
-    packing-more l =
-        let s = w .reached (omega arith) in
-        let few = walkable .few in
-        let behind = w .behind in
-        (s .standing, reached-more f m run run (i - m .relocations .entries) s (walkable .counted) (omega arith))
+    packing-more l = walkable-more f m (found .item) run i walkable (w .behind) l (w .reached (omega arith))
 
     pub packing-end : found .item ≤ i → Finds f m lo size found found
     packing-end l = record {
