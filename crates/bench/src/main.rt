@@ -53,5 +53,7 @@ fn main() {
     bench_runs::run_aligned(b"align 16384, bias 16384: ", 16384, 16384);
     run_packed();
     bench_limits::run_limits();
+    bench_runs::run_checks(b"memory of 16777216, the checks: ", 16777216);
+    bench_runs::run_checks(b"memory of 16777232, the checks: ", 16777232);
     bench_report::run_tables();
 }

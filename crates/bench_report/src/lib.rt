@@ -28,11 +28,22 @@ pub fn print_refusal(r: Refusal) {
     end_line();
 }
 
-// The globals, the words relocated and one of them.
-pub fn print_taken(facts: Facts, word: u64) {
+// The globals and the words relocated.
+fn print_counts(facts: Facts) {
     io::write_all(STDOUT_FILENO, b"taken ");
     print_number(facts.globals as u64);
-    print_number(facts.words as u64);
+    io::print_decimal(STDOUT_FILENO, facts.words as u64);
+}
+
+pub fn print_facts(facts: Facts) {
+    print_counts(facts);
+    end_line();
+}
+
+// With one of the words.
+pub fn print_taken(facts: Facts, word: u64) {
+    print_counts(facts);
+    io::write_all(STDOUT_FILENO, b" ");
     io::print_hex(STDOUT_FILENO, word, 16);
     end_line();
 }

@@ -2,6 +2,8 @@
 use bench_images::SHEET_PLACE;
 use libc::STDOUT_FILENO;
 use rules::Answer;
+use rules::GRANULE;
+use rules::ModuleAnswer;
 
 // Bytes of an image.
 const FILE: usize = 1024;
@@ -67,4 +69,31 @@ pub fn run_packed(name: &[u8], word: u64, loaded: u64) {
     let mut f = [0u8; FILE];
     bench_images::put_packed(&mut f, SHEET_MEMORY as u64, word, loaded);
     run_image(&f, name, BIAS, b"\x03\x09\x05");
+}
+
+// Makes every check of a load into memory of so many bytes, with a plane of a sixteenth; writes the globals and the words to relocate, or
+// the refusal. Nothing is lent and nothing written, so that memory may be longer than a program's own.
+fn print_checks(f: &[u8], memory: u64) {
+    let read = elf::read_module(f);
+    let ModuleAnswer::Found(m) = read else {
+        io::write_all(STDOUT_FILENO, b"not read\n");
+        return;
+    };
+    let answer = checks::check_load(f, m, BIAS, memory, memory / GRANULE, b"\x03\x09\x05");
+    match answer {
+        Answer::Taken(facts) => {
+            bench_report::print_facts(facts);
+        }
+        Answer::Refused(r) => {
+            bench_report::print_refusal(r);
+        }
+    }
+}
+
+// The sheet's image, with memory of so many bytes.
+pub fn run_checks(name: &[u8], memory: u64) {
+    let mut f = [0u8; FILE];
+    bench_images::put_sheet(&mut f, SHEET_MEMORY as u64, 0x10c0, 0);
+    io::write_all(STDOUT_FILENO, name);
+    print_checks(&f, memory);
 }
