@@ -1,4 +1,4 @@
--- Checks 7, 15, 8 and 9 in three stages.
+-- Checks 7, 15, 8, 16 and 9 in three stages.
 -- Assumes nothing.
 use Prim.Native.Nat.{ℕ}
 use mathlib.Core.List.{List}
@@ -15,7 +15,7 @@ use Rattle.rules.specs.declared.Descriptors.{Descriptors}
 use Rattle.rules.specs.declared.Module.{Module}
 use Rattle.laws.proofs.Stages.{moduleWith}
 
--- checks 8 and 9, and the module
+-- checks 8, 16 and 9, and the module
 unfoldable pub globalsStage : List ℕ → Headers → Dynamic → Relocations → Packed → Descriptors → Outcome Module
 globalsStage f h d r k t = andThen (globalsOf f h t) (λ gs. good (moduleWith f h d r k t (length gs)))
 

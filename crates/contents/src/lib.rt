@@ -1,4 +1,4 @@
-// Checks 7, 15, 8 and 9: the tables that the dynamic table names, and the module with them.
+// Checks 7, 15, 8, 16 and 9: the tables that the dynamic table names, and the module with them.
 ghost use mathlib.Core.Path.{_≡_};
 ghost use Rattle.rules.specs.Answers.{ofModule};
 ghost use Rattle.contents.specs.Stages.{globalsStage, packedStage, tablesStage};
@@ -16,7 +16,7 @@ use rules::PackedAnswer;
 use rules::Relocations;
 use rules::RelocationsAnswer;
 
-// Checks 8 and 9: how many globals are described. Then all is found.
+// Checks 8, 16 and 9: how many globals are described. Then all is found.
 fn read_globals(
     f: &[u8],
     h: Headers,

@@ -8,9 +8,9 @@ use rules::GRANULE;
 use rules::RADIX;
 use rules::Reading;
 use rules::SIZES;
-use rules::Step;
+use rules::encoding;
 
-// A number of one or two bytes and the position after it; 0 where there is none such.
+// A number of one or two bytes in shortest form, and the position after it; 0 where there is none such.
 struct Short {
     value: u64,
     next: u64,
@@ -24,7 +24,7 @@ const NO_GLOBAL: Reading = Reading {
     end: 0,
 };
 
-// The number at a position, where it has one or two bytes.
+// The number at a position, where it has one or two bytes and is not padded.
 fn short_at(s: &[u8], at: u64) -> Short
     ensures { λ r. ⌜ ShortAt (now (s .entry)) at (r .value) (r .next) ⌝ }
 {
@@ -39,11 +39,13 @@ fn short_at(s: &[u8], at: u64) -> Short
         }
         if at + 1 < length {
             let high = reads::byte_at(s, at as usize + 1) as u64;
-            if high < RADIX {
-                return Short {
-                    value: low - RADIX + RADIX * high,
-                    next: at + 2,
-                };
+            if 0 < high {
+                if high < RADIX {
+                    return Short {
+                        value: low - RADIX + RADIX * high,
+                        next: at + 2,
+                    };
+                }
             }
         }
     }
@@ -54,16 +56,18 @@ fn short_at(s: &[u8], at: u64) -> Short
 fn read_long(table: &[u8], c: Cursor, index: u64) -> Reading
     ensures { λ r. ⌜ r ≡ readingOf (stepAt index (now (table .entry)) c) ⌝ }
 {
-    let step = c.step(table, index);
-    match step {
-        Step::Finished => NO_GLOBAL,
-        Step::Global(g, next) => Reading {
-            start: g.start,
-            granules: g.granules,
-            position: next.position,
-            end: next.end,
-        },
-        Step::Refused(r) => NO_GLOBAL,
+    let found = encoding::read_step(table, c, index);
+    if found.number != 0 {
+        return NO_GLOBAL;
+    }
+    if found.granules == 0 {
+        return NO_GLOBAL;
+    }
+    Reading {
+        start: found.start,
+        granules: found.granules,
+        position: found.position,
+        end: found.end,
     }
 }
 

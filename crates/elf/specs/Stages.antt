@@ -1,4 +1,4 @@
--- Checks 5 to 7, 15, 8 and 9; behind checks 1 to 4 they are `moduleOf`.
+-- Checks 5 to 7, 15, 8, 16 and 9; behind checks 1 to 4 they are `moduleOf`.
 -- Assumes nothing.
 use Prim.Native.Nat.{ℕ}
 use mathlib.Core.List.{List}

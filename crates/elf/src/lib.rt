@@ -1,4 +1,4 @@
-// The ELF reader as a whole: checks 1 to 7, 15, 8 and 9 of a file.
+// The ELF reader as a whole: checks 1 to 7, 15, 8, 16 and 9 of a file.
 ghost use mathlib.Core.Path.{_≡_};
 ghost use Rattle.rules.specs.Reader.{moduleOf};
 ghost use Rattle.rules.specs.Answers.{ofModule};
@@ -10,7 +10,7 @@ use rules::HeadersAnswer;
 use rules::ModuleAnswer;
 use rules::NEVER;
 
-// Checks 5 to 7, 15, 8 and 9: the dynamic table, and what it names.
+// Checks 5 to 7, 15, 8, 16 and 9: the dynamic table, and what it names.
 fn read_dynamic(f: &[u8], h: Headers) -> ModuleAnswer
     ensures { λ v. ⌜ ofModule v ≡ dynamicStage (now (f .entry)) h ⌝ }
 {
@@ -31,7 +31,7 @@ fn read_dynamic(f: &[u8], h: Headers) -> ModuleAnswer
     contents::read_tables(f, h, d)
 }
 
-// Checks 1 to 7, 15, 8 and 9: the module of a file.
+// Checks 1 to 7, 15, 8, 16 and 9: the module of a file.
 pub fn read_module(f: &[u8]) -> ModuleAnswer
     ensures { λ v. ⌜ ofModule v ≡ moduleOf (now (f .entry)) ⌝ }
 {

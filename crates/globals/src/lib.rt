@@ -1,4 +1,4 @@
-// Checks 8 and 9: the walk over global descriptors.
+// Checks 8, 16 and 9: the walk over global descriptors.
 ghost use mathlib.Core.Path.{_≡_};
 ghost use Rattle.rules.specs.Limits.{globalLimit};
 ghost use Rattle.rules.specs.Outcome.{good, refuse, andThen};
@@ -34,7 +34,7 @@ fn finish(table: &[u8], c: Cursor, i: u32) -> GlobalsAnswer
     GlobalsAnswer::Refused(r)
 }
 
-// The walk over a table: read one descriptor, check its range, go on. The PT_LOAD found last is asked first.
+// The walk over a table: read one descriptor, check its form and its range, go on. The PT_LOAD found last is asked first.
 fn walk_table(f: &[u8], h: Headers, table: &[u8]) -> GlobalsAnswer
     ensures { λ r. ⌜ ofGlobals r ≡ countOf (globalsFrom (now (f .entry)) h (now (table .entry)) globalLimit 0 tableStart) ⌝ }
 {
@@ -63,7 +63,7 @@ fn walk_table(f: &[u8], h: Headers, table: &[u8]) -> GlobalsAnswer
     GlobalsAnswer::Found(GLOBAL_LIMIT)
 }
 
-// Checks 8 and 9, and how many globals the table lists.
+// Checks 8, 16 and 9, and how many globals the table lists.
 pub fn count_globals(f: &[u8], h: Headers, t: Descriptors) -> GlobalsAnswer
     ensures { λ r. ⌜ ofGlobals r ≡ countOf (globalsOf (now (f .entry)) h t) ⌝ }
 {

@@ -14,7 +14,8 @@ use Rattle.rules.specs.Outcome.{good}
 use Rattle.rules.specs.Segments.{headerAt, isLoad, powerBelow, aligned, alignBefore, largestAlign, loadsCheck}
 use Rattle.rules.specs.declared.Headers.{Headers}
 use Rattle.rules.proofs.OutcomeLaws.{false-true, and-left, and-right}
-use Rattle.laws.proofs.Checks.{cond-case, le-or-lt}
+use Rattle.rules.proofs.BoolLaws.{cond-case}
+use Rattle.laws.proofs.Checks.{le-or-lt}
 use Rattle.laws.proofs.Loads.{load-good}
 
 -- a power of two, with its exponent

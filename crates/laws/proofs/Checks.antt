@@ -32,11 +32,7 @@ pub and-false : (a b : Bool) → (a && b) ≡ false → a ≡ true → b ≡ fal
 and-false true b h e = h
 and-false false b h e = search never
 
--- by cases on a test
-pub cond-case : {A : Type 0} (P : A → Type 0) (b : Bool) (x y : A) → (b ≡ true → P x) → (b ≡ false → P y) → P (cond b x y)
-cond-case P true x y f g = f refl
-cond-case P false x y f g = g refl
-
+-- two by cases on one test
 pub cond-both : {A : Type 0} (R : A → A → Type 0) (b : Bool) (x y v w : A) → (b ≡ true → R x v) → (b ≡ false → R y w)
     → R (cond b x y) (cond b v w)
 cond-both R true x y v w f g = f refl

@@ -13,7 +13,8 @@ use borrow.Author.Tests.{ltb-true, ltb-false, lt-ltb, le-ltb}
 use Rattle.rules.specs.Limits.{addressLimit, granule}
 use Rattle.rules.specs.Descriptors.{sizeLimit}
 use Rattle.rules.specs.Writer.{ulebBytes, uleb, descriptorOf, tableFrom, tableOf}
-use Rattle.laws.proofs.Checks.{cond-case, cond-both, le-or-lt}
+use Rattle.rules.proofs.BoolLaws.{cond-case}
+use Rattle.laws.proofs.Checks.{cond-both, le-or-lt}
 
 -- ---- a number
 

@@ -1,20 +1,19 @@
--- Globals that pass checks 8 and 9 are whole granules in rising order, inside the PT_LOADs.
+-- Globals that pass checks 8, 16 and 9 are whole granules in rising order, inside the PT_LOADs.
 -- Assumes nothing.
-use Prim.Native.Nat.{ℕ, zero, suc, _+_, _*_, _-_, _/_, _%_, _≤_, _<_}
+use Prim.Native.Nat.{ℕ, zero, suc, _+_, _*_, _-_, _%_, _≤_, _<_}
 use mathlib.Core.Path.{_≡_, refl, sym, ap, _∙_, subst}
 use mathlib.Core.Bool.{Bool, true, false, cond}
 use mathlib.Core.List.{List, [], _∷_}
+use mathlib.Core.Logic.{⊎-elim}
 use native.Mathlib.Numerals.{add-one, sub-one}
 use native.Mathlib.Omega.{arith}
 use lib.ListN.{length, drop}
 use lib.Seq.{drop-cons}
-use lib.Dec.{leb, ltb, eqb}
-use borrow.Author.Tests.{eqb-true, eqb-false, leb-true}
+use lib.Dec.{ltb}
 use Rattle.rules.specs.Outcome.{Outcome, good, bad, andThen, refusal}
 use Rattle.rules.specs.Limits.{granule, globalLimit, addressLimit}
 use Rattle.rules.specs.Segments.{loadsCheck, loadsEnd, inMemory}
-use Rattle.rules.specs.Descriptors.{Uleb, number, malformed, Read, finished, global, ulebAt, globalAfter}
-use Rattle.rules.specs.Descriptors.{second, descriptor, stepAt, onGlobal, globalsFrom, globalsOf, descriptorTable, tableStart}
+use Rattle.rules.specs.Descriptors.{Read, finished, global, stepAt, onGlobal, globalsFrom, globalsOf, descriptorTable, tableStart}
 use Rattle.rules.specs.Choices.{endOf, globalAt}
 use Rattle.rules.specs.declared.Headers.{Headers}
 use Rattle.rules.specs.declared.Descriptors.{Descriptors}
@@ -23,6 +22,7 @@ use Rattle.rules.specs.declared.Cursor.{Cursor}
 use Rattle.rules.proofs.OutcomeLaws.{bad-good, andThen-good, cond-held}
 use Rattle.laws.proofs.Checks.{good-same}
 use Rattle.laws.proofs.Loads.{in-memory}
+use Rattle.laws.proofs.Steps.{Worded, step-kept}
 
 -- a global that follows an end, with the cursor after it
 pub record Follows (end : ℕ) (g : Global) (c : Cursor) : Type 0 where
@@ -37,47 +37,21 @@ abbrev pub Next : ℕ → Read → Type 0
 Next end finished = Unit
 Next end (global g c) = Follows end g c
 
-global-next : (index end distance granules next : ℕ) (r : Read) → 1 ≤ granules → globalAfter index end distance granules next ≡ good r → Next end r
-unfolding globalAfter
-global-next index end distance granules next r l h =
-    let q = cond-held _ (leb (end + granule * distance + granule * granules) addressLimit) _ h in
-    good-same (λ r. Next end r) _ r (q .1)
-    (record {
-      starts = omega arith;
-      aligned = omega arith;
-      filled = l;
-      ends = refl;
-      limited = leb-true (end + granule * distance + granule * granules) addressLimit (q .0);
-    })
-
-second-next : (index end distance : ℕ) (u : Uleb) (r : Read) → second index end distance u ≡ good r → Next end r
-unfolding second
-second-next index end distance (number v next) r h = global-next index end distance (v + 1) next r (omega arith) h
-second-next index end distance malformed r h = bad-good h
-
-descriptor-next : (index : ℕ) (s : List ℕ) (end : ℕ) (u : Uleb) (r : Read) → descriptor index s end u ≡ good r → Next end r
-unfolding descriptor
-descriptor-next index s end (number v next) r h = go (eqb (v % 8) 0) refl h
-  where
-    go : (b : Bool) → eqb (v % 8) 0 ≡ b
-        → cond b (second index end (v / 8) (ulebAt s next)) (globalAfter index end (v / 8) (v % 8) next) ≡ good r → Next end r
-    go true e h = second-next index end (v / 8) (ulebAt s next) r h
-    go false e h =
-        let ne = eqb-false (v % 8) 0 e in
-        global-next index end (v / 8) (v % 8) next r (omega arith) h
-descriptor-next index s end malformed r h = bad-good h
-
 pub step-next : (index : ℕ) (s : List ℕ) (c : Cursor) (r : Read) → stepAt index s c ≡ good r → (c .end % 16 ≡ 0) × Next (c .end) r
-unfolding stepAt
 step-next index s c r h =
-    let a = cond-held _ (leb (c .position) (length s)) _ h in
-    let b = cond-held _ (eqb (c .end % granule) 0) _ (a .1) in
-    let d = cond-held _ (leb (c .end) addressLimit) _ (b .1) in
-    (eqb-true (c .end % granule) 0 (b .0), go (ltb (c .position) (length s)) (d .1))
-  where
-    go : (t : Bool) → cond t (descriptor index s (c .end) (ulebAt s (c .position))) (good finished) ≡ good r → Next (c .end) r
-    go true e = descriptor-next index s (c .end) (ulebAt s (c .position)) r e
-    go false e = good-same (λ r. Next (c .end) r) finished r e tt
+    let k = step-kept index s c r h in (
+      k .whole,
+      ⊎-elim
+          (λ e. subst (λ (r : Read). Next (c .end) r) (e .1) tt)
+          (λ (w : Worded index s (c .position) (c .end) r). subst (λ (r : Read). Next (c .end) r) (w .found) (record {
+            starts = omega arith;
+            aligned = omega arith;
+            filled = w .filled;
+            ends = refl;
+            limited = w .low;
+          }))
+          (k .either),
+    )
 
 -- globals one after the other from an end on, all of them by a limit
 pub record Linked (Rest : Type 0) (limit end : ℕ) (g : Global) : Type 0 where

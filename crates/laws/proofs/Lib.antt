@@ -4,6 +4,7 @@ pub mod KnownTags
 pub mod Loads
 pub mod Aligns
 pub mod Writes
+pub mod Steps
 pub mod Globals
 pub mod Encoding
 pub mod Listed

@@ -17,7 +17,8 @@ use Rattle.rules.specs.Segments.{covers, holds, inMemory, holdsAt, writable}
 use Rattle.rules.specs.declared.Headers.{Headers}
 use Rattle.rules.specs.declared.Segment.{Segment}
 use Rattle.rules.proofs.OutcomeLaws.{and-left, and-right}
-use Rattle.laws.proofs.Checks.{cond-case, and-false, faultless-all, some-at}
+use Rattle.rules.proofs.BoolLaws.{cond-case}
+use Rattle.laws.proofs.Checks.{and-false, faultless-all, some-at}
 
 -- a good PT_LOAD in a file of so many bytes, after one that ends at last
 pub record Good (size last : ℕ) (s : Segment) : Type 0 where

@@ -14,7 +14,8 @@ use Rattle.rules.specs.Bytes.{le}
 use Rattle.rules.specs.Memory.{over, put, bytesOf, putWord}
 use Rattle.rules.specs.Words.{writes}
 use Rattle.rules.proofs.MemoryLaws.{over-nil, put-length, put-before, put-after, put-in}
-use Rattle.laws.proofs.Checks.{cond-case, cond-both}
+use Rattle.rules.proofs.BoolLaws.{cond-case}
+use Rattle.laws.proofs.Checks.{cond-both}
 
 -- s and a last byte x or y: what agrees at i agrees after, but at the last byte
 over-agree : (s m m′ : List ℕ) (x y i : ℕ) → length m ≡ length m′ → getD m i 0 ≡ getD m′ i 0 → (i ≡ length s → ⊥)

@@ -15,7 +15,7 @@ use Rattle.rules.specs.Words.{sourceTag}
 use Rattle.rules.specs.declared.Target.{Target}
 use Rattle.rules.specs.declared.Target.the-variants.{Base, Defined, Undefined, Barred}
 use Rattle.rules.proofs.MemoryLaws.{put-length}
-use Rattle.laws.proofs.Checks.{cond-case}
+use Rattle.rules.proofs.BoolLaws.{cond-case}
 use Rattle.laws.proofs.Items.{entry-live, entry-place, entry-addend}
 use Rattle.laws.proofs.Writes.{low-bytes}
 use Rattle.rela_words.specs.Words.{loadedFor, putEntry, StandsAt, targetOver, written, relocatedFrom, relocated}

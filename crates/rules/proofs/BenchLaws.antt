@@ -1,12 +1,12 @@
 -- The marked rows of the bench sheet hold by computation.
 -- Assumes nothing.
 use mathlib.Core.Path.{refl}
-use Rattle.rules.specs.Descriptors.{stepAt, descriptor, second, globalAfter, ulebIn}
+use Rattle.rules.specs.Descriptors.{ulebIn, shortSecond, shortFirst, second, descriptor, globalAfter, readAt, stepAt}
 use Rattle.rules.specs.Plane.{tagged}
 use Rattle.rules.specs.Memory.{put, over}
 use Rattle.rules.specs.Writer.{ulebBytes, tableFrom, listCheck, writtenOf}
 use Rattle.rules.specs.Bench.{BenchHolds}
 
 pub bench : BenchHolds
-unfolding stepAt descriptor second globalAfter ulebIn tagged put over ulebBytes tableFrom listCheck writtenOf
+unfolding ulebIn shortSecond shortFirst second descriptor globalAfter readAt stepAt tagged put over ulebBytes tableFrom listCheck writtenOf
 bench = refl

@@ -6,4 +6,5 @@ pub mod MemoryLaws
 pub mod Tests
 pub mod BoolLaws
 pub mod UlebLaws
+pub mod DescriptorLaws
 pub mod BenchLaws

@@ -2,15 +2,16 @@
 -- Assumes nothing.
 use Prim.Native.Nat.{ℕ, zero, suc, _+_, _*_, _%_, _-_, _^_, _≤_, _<_}
 use mathlib.Core.List.{List}
-use mathlib.Core.Path.{_≡_, refl, ap}
+use mathlib.Core.Path.{_≡_, refl, ap, subst}
 use native.Mathlib.Omega.{arith}
 use native.Mathlib.Nat.{mul-add, mul-assoc, add-assoc, mul-one, mul-le-mul-left, pow-suc, pow-le-pow-right}
 use native.Mathlib.Numerals.{sub-one}
 use mathlib.Core.Bool.{Bool, true, false, cond}
-use borrow.Author.Tests.{lt-ltb, le-ltb}
+use borrow.Author.Tests.{ltb-true, lt-ltb, le-ltb}
 use lib.ListN.{length, getD}
 use lib.Dec.{ltb}
-use Rattle.rules.specs.Descriptors.{Uleb, number, malformed, extend, ulebIn}
+use Rattle.rules.specs.Descriptors.{Uleb, number, malformed, extend, lastLimit, ulebIn, ulebAt}
+use Rattle.rules.proofs.BoolLaws.{cond-case}
 
 -- a number that stands above a lower part, which is below scale
 abbrev pub above : ℕ → ℕ → Uleb → Uleb
@@ -81,3 +82,35 @@ module _ (s : List ℕ) (at : ℕ) where
       both : (t : Bool) → cond t malformed malformed ≡ malformed
       both true = refl
       both false = refl
+
+-- ---- where a number stands
+
+-- a position after at, inside so many bytes, and no more than so many on
+abbrev pub Past : ℕ → ℕ → ℕ → ℕ → Type 0
+Past at size most next = (at < next) × ((next ≤ size) × (next ≤ at + most))
+
+-- a number stands in the bytes that it was read from
+abbrev pub Stands : ℕ → ℕ → ℕ → Uleb → Type 0
+Stands at size most (number v next) = Past at size most next
+Stands at size most malformed = Unit
+
+extend-stands : (at size most low : ℕ) (u : Uleb) → Stands (at + 1) size most u → Stands at size (suc most) (extend low u)
+extend-stands at size most low (number v next) h = (omega arith, (h .1 .0, omega arith))
+extend-stands at size most low malformed h = tt
+
+pub uleb-stands : (s : List ℕ) (n at : ℕ) → Stands at (length s) n (ulebIn n s at)
+unfolding ulebIn
+uleb-stands s zero at = tt
+uleb-stands s (suc n) at =
+    let again = uleb-stands s n (at + 1) in
+    cond-case (λ (u : Uleb). Stands at (length s) (suc n) u) (ltb at (length s)) _ _
+    (λ l.
+    let here = ltb-true at (length s) l in
+    cond-case (λ (u : Uleb). Stands at (length s) (suc n) u) (ltb (getD s at 0) 128) _ _
+    (λ _. cond-case (λ (u : Uleb). Stands at (length s) (suc n) u) (ltb (getD s at 0) (lastLimit n)) _ _
+    (λ _. (omega arith, (omega arith, omega arith))) (λ _. tt))
+    (λ _. extend-stands at (length s) n (getD s at 0 % 128) (ulebIn n s (at + 1)) again))
+    (λ _. tt)
+
+pub number-stands : (s : List ℕ) (at v next : ℕ) → ulebAt s at ≡ number v next → Past at (length s) 10 next
+number-stands s at v next e = subst (λ (u : Uleb). Stands at (length s) 10 u) e (uleb-stands s 10 at)

@@ -40,9 +40,9 @@ globalOf start granules = record { start = start; granules = granules }
 abbrev found : List ℕ → Cursor → ℕ → ℕ → Cursor → Row
 found bytes from start granules next = record { given = read bytes from; says = reads (good (global (globalOf start granules) next)) }
 
--- a table that is refused with number 8
-abbrev refused : List ℕ → Row
-refused bytes = record { given = read bytes tableStart; says = reads (refuse 8 0) }
+-- a table that is refused with a number
+abbrev refused : List ℕ → ℕ → Row
+refused bytes number = record { given = read bytes tableStart; says = reads (refuse number 0) }
 
 abbrev written : ℕ → ℕ → ℕ → Row
 written addend loaded says = record { given = word addend loaded; says = writes says }
@@ -75,10 +75,10 @@ rows =
     ∷ found sheet (cursor 4 0x10c0) 0x10c0 1 (cursor 5 0x10d0)
     ∷ found (0x07 ∷ []) tableStart 0 7 (cursor 1 0x70)
     ∷ found (0x00 ∷ 0x07 ∷ []) tableStart 0 8 (cursor 2 0x80)
-    ∷ found (0x00 ∷ 0x00 ∷ []) tableStart 0 1 (cursor 2 0x10)
-    ∷ refused (0x00 ∷ [])
-    ∷ found (0x81 ∷ 0x00 ∷ []) tableStart 0 1 (cursor 2 0x10)
-    ∷ refused (0xff ∷ 0xff ∷ 0xff ∷ 0xff ∷ 0xff ∷ 0xff ∷ 0xff ∷ 0xff ∷ 0xff ∷ 0x02 ∷ [])
+    ∷ refused (0x00 ∷ 0x00 ∷ []) 16
+    ∷ refused (0x00 ∷ []) 8
+    ∷ refused (0x81 ∷ 0x00 ∷ []) 16
+    ∷ refused (0xff ∷ 0xff ∷ 0xff ∷ 0xff ∷ 0xff ∷ 0xff ∷ 0xff ∷ 0xff ∷ 0xff ∷ 0x02 ∷ []) 8
     ∷ written 0x10c0 (minus 128) 0x09000000400010c0
     ∷ written 0x10c0 0 0x05000000400010c0
     ∷ written 0x10c0 (minus 1) 0x09000000400010c0

@@ -1,11 +1,11 @@
--- Checks 8 and 9: global descriptors.
+-- Checks 8, 16 and 9: global descriptors.
 -- Assumes nothing.
 use Prim.Native.Nat.{ℕ, zero, suc, _+_, _*_, _-_, _/_, _%_}
 use mathlib.Core.Bool.{Bool, true, false, cond, not, _&&_}
 use mathlib.Core.List.{List, [], _∷_}
 use lib.ListN.{length, getD}
 use lib.Dec.{ltb, leb, eqb}
-use Rattle.rules.specs.Outcome.{Outcome, good, bad, found, refuse, andThen}
+use Rattle.rules.specs.Outcome.{Outcome, good, bad, found, refuse, andThen, require}
 use Rattle.rules.specs.Limits.{addressLimit, globalLimit, granule}
 use Rattle.rules.specs.Bytes.{part}
 use Rattle.rules.specs.Segments.{inMemory}
@@ -66,29 +66,54 @@ shortFirst s at malformed = false
 abbrev pub shortAt : List ℕ → ℕ → Bool
 shortAt s at = shortFirst s at (ulebAt s at)
 
+-- what a descriptor says: the distance from the last end and the size, in granules, and the position after it
+pub record Descriptor : Type 0 where
+  pub distance : ℕ
+  pub granules : ℕ
+  pub next : ℕ
+
+-- by its parts
+abbrev pub saying : ℕ → ℕ → ℕ → Descriptor
+saying distance granules next = record { distance = distance; granules = granules; next = next }
+
+-- a second number: the size is that number plus 1
+unfoldable pub second : ℕ → ℕ → Uleb → Outcome Descriptor
+second index distance (number v next) = good (saying distance (v + 1) next)
+second index distance malformed = refuse 8 index
+
+-- the first number: its low three bits are the size, or 0 where a second number follows; the rest is the distance
+unfoldable pub descriptor : ℕ → List ℕ → Uleb → Outcome Descriptor
+descriptor index s (number v next) =
+    cond (eqb (v % sizeLimit) 0)
+    (second index (v / sizeLimit) (ulebAt s next))
+    (good (saying (v / sizeLimit) (v % sizeLimit) next))
+descriptor index s malformed = refuse 8 index
+
 -- what reading one descriptor finds
 pub data Read : Type 0 where
   finished : Read
   global : Global → Cursor → Read
 
--- a global of so many granules that begins distance granules after the last end; refused where it ends above 2^48
-unfoldable pub globalAfter : ℕ → ℕ → ℕ → ℕ → ℕ → Outcome Read
-globalAfter index end distance granules next =
-    cond (leb (end + granule * distance + granule * granules) addressLimit)
-    (good (global (record { start = end + granule * distance; granules = granules })
-    (record { position = next; end = end + granule * distance + granule * granules })))
-    (refuse 9 index)
+-- where the global that a descriptor says ends, after the last end
+abbrev pub endAfter : ℕ → Descriptor → ℕ
+endAfter end d = end + granule * d .distance + granule * d .granules
 
--- a second number: the size is that number plus 1
-unfoldable pub second : ℕ → ℕ → ℕ → Uleb → Outcome Read
-second index end distance (number v next) = globalAfter index end distance (v + 1) next
-second index end distance malformed = refuse 8 index
+-- that global, and the cursor after its descriptor
+abbrev pub saidAfter : ℕ → Descriptor → Read
+saidAfter end d =
+    global (record { start = end + granule * d .distance; granules = d .granules }) (record { position = d .next; end = endAfter end d })
 
--- the first number: its low three bits are the size, or 0 where a second number follows; the rest is the distance
-unfoldable pub descriptor : ℕ → List ℕ → ℕ → Uleb → Outcome Read
-descriptor index s end (number v next) =
-    cond (eqb (v % sizeLimit) 0) (second index end (v / sizeLimit) (ulebAt s next)) (globalAfter index end (v / sizeLimit) (v % sizeLimit) next)
-descriptor index s end malformed = refuse 8 index
+-- its range: refused where it ends above 2^48
+unfoldable pub globalAfter : ℕ → ℕ → Descriptor → Outcome Read
+globalAfter index end d = cond (leb (endAfter end d) addressLimit) (good (saidAfter end d)) (refuse 9 index)
+
+-- a descriptor that reads: refused with 16 where it is not in shortest form, and then by its range
+abbrev pub judged : ℕ → Bool → ℕ → Descriptor → Outcome Read
+judged index short end d = andThen (require short 16 index) (λ _. globalAfter index end d)
+
+-- the descriptor at a position, after the last end: the tests in their order
+unfoldable pub readAt : ℕ → List ℕ → ℕ → ℕ → Outcome Read
+readAt index s at end = andThen (descriptor index s (ulebAt s at)) (λ d. judged index (shortAt s at) end d)
 
 -- one descriptor at a cursor, called alone, with the index to report: the tests in their order
 unfoldable pub stepAt : ℕ → List ℕ → Cursor → Outcome Read
@@ -96,7 +121,7 @@ stepAt index s c =
     cond (leb (c .position) (length s))
     (cond (eqb (c .end % granule) 0)
     (cond (leb (c .end) addressLimit)
-    (cond (ltb (c .position) (length s)) (descriptor index s (c .end) (ulebAt s (c .position))) (good finished))
+    (cond (ltb (c .position) (length s)) (readAt index s (c .position) (c .end)) (good finished))
     (refuse 9 index))
     (refuse 9 index))
     (refuse 8 index)
@@ -116,7 +141,7 @@ onGlobal (global g c) k = k g c
 abbrev pub tableStart : Cursor
 tableStart = record { position = 0; end = 0 }
 
--- the walk of checks 8 and 9 from the index i on, with n more descriptors allowed: read one, check its range, go on
+-- the walk of checks 8, 16 and 9 from the index i on, with n more descriptors allowed: read one, check its form and its range, go on
 unfoldable pub globalsFrom : List ℕ → Headers → List ℕ → ℕ → ℕ → Cursor → Outcome (List Global)
 globalsFrom f h s zero i c = cond (ltb (c .position) (length s)) (refuse 9 i) (good [])
 globalsFrom f h s (suc n) i c =
@@ -130,7 +155,7 @@ globalsFrom f h s (suc n) i c =
 abbrev pub descriptorTable : List ℕ → Descriptors → List ℕ
 descriptorTable f t = part f (t .at) (t .bytes)
 
--- checks 8 and 9, and the globals
+-- checks 8, 16 and 9, and the globals
 unfoldable pub globalsOf : List ℕ → Headers → Descriptors → Outcome (List Global)
 globalsOf f h t = globalsFrom f h (descriptorTable f t) globalLimit 0 tableStart
 

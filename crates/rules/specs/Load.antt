@@ -1,4 +1,4 @@
--- The load: checks 1 to 7, 15, 8 to 14, in this order, and what it answers and leaves.
+-- The load: checks 1 to 7, 15, 8, 16, 9 to 14, in this order, and what it answers and leaves.
 -- Assumes nothing.
 use Prim.Native.Nat.{ℕ}
 use mathlib.Core.List.{List, [], _∷_, _++_}

@@ -1,4 +1,4 @@
--- The reader as a whole: checks 1 to 7, 15, 8 and 9, in this order, and the module that they find.
+-- The reader as a whole: checks 1 to 7, 15, 8, 16 and 9, in this order, and the module that they find.
 -- Assumes nothing.
 use Prim.Native.Nat.{ℕ}
 use mathlib.Core.List.{List, [], _∷_, _++_}
@@ -41,7 +41,7 @@ theModule f = record {
   globals = length (globalsListed f (theHeaders f) (theDescriptors f));
 }
 
--- check 5; check 7 of each table; check 15; checks 8 and 9, one walk
+-- check 5; check 7 of each table; check 15; checks 8, 16 and 9, one walk
 abbrev pub dynamicCheck : List ℕ → Check
 dynamicCheck f = passed (dynamicOf f (theHeaders f))
 
@@ -57,7 +57,7 @@ packedCheck f = passed (packedOf f (theHeaders f) (theDynamic f) (theRelocations
 abbrev pub globalsCheck : List ℕ → Check
 globalsCheck f = passed (globalsOf f (theHeaders f) (theDescriptors f))
 
--- checks 1 to 7, 15, 8 and 9, in this order
+-- checks 1 to 7, 15, 8, 16 and 9, in this order
 abbrev pub readerChecks : List ℕ → List Check
 readerChecks f =
     headerChecks f

@@ -175,7 +175,7 @@ pub struct Reading {
     pub end: u64,
 }
 
-// What the ELF reader finds in a file that passes checks 1 to 7, 15, 8 and 9. The symbol table is known by its address.
+// What the ELF reader finds in a file that passes checks 1 to 7, 15, 8, 16 and 9. The symbol table is known by its address.
 pub struct Module {
     pub headers: Headers,
     pub dynamic: Dynamic,
@@ -270,7 +270,7 @@ pub enum Step {
     Refused(Refusal),
 }
 
-// How many globals a table lists, in the walk of checks 8 and 9.
+// How many globals a table lists, in the walk of checks 8, 16 and 9.
 pub enum GlobalsAnswer {
     Found(u32),
     Refused(Refusal),
@@ -282,7 +282,7 @@ pub enum TableAnswer {
     Refused(Refusal),
 }
 
-// The answer of the ELF reader, checks 1 to 7, 15, 8 and 9.
+// The answer of the ELF reader, checks 1 to 7, 15, 8, 16 and 9.
 pub enum ModuleAnswer {
     Found(Module),
     Refused(Refusal),

@@ -1,17 +1,27 @@
 -- By what the step found.
 -- Assumes nothing.
 use borrow.Author.Needs.{needs}
+use borrow.Author.Tests.{eq-eqb, ne-eqb}
 use Rattle.descriptors.proofs.read_long.Statement.{statement}
 use Rattle.descriptors.proofs.read_long.Tie as tie
 
 returns : tie.Need-returns
-returns c = rw (← c .before .before .step .ensures, c .enum-told .given .1)
+returns c =
+    let S = c .before .before in
+    let n = S .read-step .result in
+    rw (← S .read-step .ensures, ne-eqb (n .number) 0 (c .if1 .taken))
 
 returns-2 : tie.Need-returns-2
-returns-2 c = rw (← c .before .before .before .step .ensures, c .before .step2 .given .1)
+returns-2 c =
+    let S = c .before .before .before .before in
+    let n = S .read-step .result in
+    rw (← S .read-step .ensures, eq-eqb (n .number) 0 (c .before .before .if1 .left), eq-eqb (n .granules) 0 (c .if2 .taken))
 
 returns-3 : tie.Need-returns-3
-returns-3 c = rw (← c .before .before .before .step .ensures, c .before .step3 .given .1)
+returns-3 c =
+    let S = c .before .before .before .before in
+    let n = S .read-step .result in
+    rw (← S .read-step .ensures, eq-eqb (n .number) 0 (c .before .before .if1 .left), ne-eqb (n .granules) 0 (c .if2 .left))
 
 pub read-long-spec : {M : Type 1} → statement M
-read-long-spec = tie.close (tie.spec (search needs) (search needs) (search needs) (search needs) returns returns-2 returns-3)
+read-long-spec = tie.close (tie.spec (search needs) returns returns-2 returns-3)

@@ -2,63 +2,58 @@
 -- Assumes nothing.
 use Prim.Native.Nat.{_+_, _-_, _%_}
 use mathlib.Core.Path.{_≡_}
-use borrow.Author.Tests.{eq-eqb, ne-eqb}
-use Rattle.rules.specs.Descriptors.{descriptor}
 use native.Mathlib.Omega.{arith}
 use borrow.Author.Needs.{needs}
+use borrow.Author.Tests.{eq-eqb, ne-eqb}
+use Rattle.rules.specs.Descriptors.{number, ulebAt, descriptor, readAt}
+use Rattle.rules.proofs.UlebLaws.{number-stands}
+use Rattle.rules.proofs.DescriptorLaws.{short-one, short-two}
 use Rattle.rules.proofs.encoding.step_first.Statement.{statement}
 use Rattle.rules.proofs.encoding.step_first.Tie as tie
 
-read-uleb-requires : tie.Need-read-uleb-requires
-read-uleb-requires c κs = search needs
-
-enum-known-u : tie.Need-enum-known-u
-enum-known-u c = search needs
-
-enum-told : tie.Need-enum-told
-enum-told c = search needs
-
-refused-requires : tie.Need-refused-requires
-refused-requires c κs = search needs
-
 returns : tie.Need-returns
-unfolding descriptor
+unfolding descriptor readAt
 returns c = rw (c .refused .ensures, ← c .before .before .before .read-uleb .ensures, c .before .enum-told .given .1)
 
-step-second-requires : tie.Need-step-second-requires
-step-second-requires c κs = search needs
-
-sub-global-after : tie.Need-sub-global-after
-sub-global-after c = search needs
-
-global-after-requires : tie.Need-global-after-requires
-global-after-requires c κs = search needs
+is-padded-requires : tie.Need-is-padded-requires
+is-padded-requires c κs =
+    let U = c .before in
+    let R = U .before .before in
+    let a = R .before .before .args in
+    let v = U .u .given .0 .0 in
+    let next = U .u .given .0 .1 .0 in
+    let read : ulebAt (a .s .now) (a .at) ≡ number v next = rw (← R .read-uleb .ensures, U .u .given .1) in
+    let stands = number-stands (a .s .now) (a .at) v next read in
+    (stands .0, stands .1 .0)
 
 returns-2 : tie.Need-returns-2
-unfolding descriptor
+unfolding descriptor readAt
 returns-2 c =
-    let U = c .before .before .before in
-    rw (c .step-second .ensures, ← U .before .before .read-uleb .ensures, U .u .given .1, eq-eqb _ _ (c .before .if1 .taken))
+    let P = c .before .before in
+    let U = P .before .before in
+    let R = U .before .before in
+    let a = R .before .before .args in
+    let v = U .u .given .0 .0 in
+    let next = U .u .given .0 .1 .0 in
+    let none = c .before .if1 .taken in
+    let short = short-two (a .s .now) (a .at) v next none in
+    rw (c .step-second .ensures, P .is-padded .ensures, ← R .read-uleb .ensures, U .u .given .1, short, eq-eqb _ _ none)
 
 returns-3 : tie.Need-returns-3
-unfolding descriptor
+unfolding descriptor readAt
 returns-3 c =
-    let U = c .before .before .before in
+    let P = c .before .before in
+    let U = P .before .before in
+    let R = U .before .before in
+    let a = R .before .before .args in
     let v = U .u .given .0 .0 in
+    let next = U .u .given .0 .1 .0 in
+    let some = c .before .if1 .left in
+    let short = short-one (a .s .now) (a .at) v next some in
     let size : v % 8 - 1 + 1 ≡ v % 8 = omega arith in
-    rw (c .global-after .ensures, ← U .before .before .read-uleb .ensures, U .u .given .1, ne-eqb _ _ (c .before .if1 .left), size)
+    rw (c .global-after .ensures, P .is-padded .ensures, ← R .read-uleb .ensures, U .u .given .1, short, ne-eqb _ _ some, size)
 
 pub step-first-spec : {M : Type 1} → statement M
 step-first-spec =
-    tie.close
-    (tie.spec
-    read-uleb-requires
-    enum-known-u
-    enum-told
-    refused-requires
-    returns
-    step-second-requires
-    sub-global-after
-    global-after-requires
-    returns-2
-    returns-3)
+    tie.close (tie.spec (search needs) (search needs) (search needs) (search needs) returns is-padded-requires (search needs) (search needs) (search needs)
+    returns-2 returns-3)
