@@ -19,7 +19,8 @@ use Rattle.rules.specs.Image.{loadsOver, imageOf, byteOf, loadedIn}
 use Rattle.rules.specs.declared.Headers.{Headers}
 use Rattle.rules.specs.declared.Module.{Module}
 use Rattle.rules.proofs.MemoryLaws.{put-length, put-before, put-after, put-in}
-use Rattle.laws.proofs.Checks.{cond-case, le-or-lt}
+use Rattle.rules.proofs.BoolLaws.{cond-case}
+use Rattle.laws.proofs.Checks.{le-or-lt}
 use Rattle.rules.proofs.FirstLaws.{first-le, first-true, first-all}
 use Rattle.rules.proofs.OutcomeLaws.{and-left, and-right}
 use Rattle.laws.proofs.Loads.{load-good, load-end, loads-apart, covers-within}
@@ -31,7 +32,7 @@ use Rattle.demands.specs.Demands.{FilePart, Image}
 pub part-length : (s : List ℕ) (at n : ℕ) → at + n ≤ length s → length (part s at n) ≡ n
 part-length s at n h = simp (length-take, length-drop) (omega arith)
 
-part-at : (s : List ℕ) (at n i : ℕ) → i < n → getD (part s at n) i 0 ≡ getD s (at + i) 0
+pub part-at : (s : List ℕ) (at n i : ℕ) → i < n → getD (part s at n) i 0 ≡ getD s (at + i) 0
 part-at s at n i h = rw (getD-take, getD-drop)
 
 pub loads-length : (f : List ℕ) (h : Headers) (m : List ℕ) (k : ℕ) → length (loadsOver f h m k) ≡ length m

@@ -16,7 +16,7 @@ use Rattle.rules.specs.Lending.{biasFits, memoryFits, planeFits, lendingFits, l
 use Rattle.rules.specs.declared.Headers.{Headers}
 use Rattle.rules.specs.declared.Module.{Module}
 use Rattle.rules.proofs.OutcomeLaws.{and-left, and-right, require-held}
-use Rattle.laws.proofs.Checks.{cond-case}
+use Rattle.rules.proofs.BoolLaws.{cond-case}
 use Rattle.laws.proofs.Loads.{load-good, load-end}
 use Rattle.laws.proofs.Aligns.{aligned-agree, largest-each, each-largest}
 use Rattle.demands.specs.Lending.{Fitting, Lends, InStep}

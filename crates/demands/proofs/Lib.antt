@@ -1,4 +1,8 @@
 pub mod Lowest
+pub mod Spelling
+pub mod Fewest
+pub mod Forms
+pub mod Steps
 pub mod Packed
 pub mod PackedFaults
 pub mod Items
@@ -14,11 +18,8 @@ pub mod Sources
 pub mod Standing
 pub mod Tags
 pub mod Refusals
-pub mod Steps
 pub mod Writer
-pub mod Spelling
 pub mod Written
-pub mod Least
 pub mod Rewritten
 pub mod Theorem
 pub mod Calls

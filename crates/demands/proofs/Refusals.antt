@@ -107,7 +107,7 @@ passed-found P other (bad r) e h = bad-good e
 abbrev Bounded : (ℕ → Type 0) → Type 0
 Bounded P = (i : ℕ) → P i → i ≤ positionLimit
 
--- a number of a list of one or two
+-- a number of a list of one, two or three
 pub listed-one : (code x : ℕ) → listed (code ∷ []) x ≡ true → x ≡ code
 listed-one code x h = go (eqb code x) refl h
   where
@@ -121,6 +121,13 @@ listed-two one two x h = go (eqb one x) refl h
     go : (b : Bool) → eqb one x ≡ b → (b || listed (two ∷ []) x) ≡ true → (x ≡ one) ⊎ (x ≡ two)
     go true q h = inl (sym (eqb-true one x q))
     go false q h = inr (listed-one two x h)
+
+listed-three : (one two three x : ℕ) → listed (one ∷ two ∷ three ∷ []) x ≡ true → (x ≡ one) ⊎ ((x ≡ two) ⊎ (x ≡ three))
+listed-three one two three x h = go (eqb one x) refl h
+  where
+    go : (b : Bool) → eqb one x ≡ b → (b || listed (two ∷ three ∷ []) x) ≡ true → (x ≡ one) ⊎ ((x ≡ two) ⊎ (x ≡ three))
+    go true q h = inl (sym (eqb-true one x q))
+    go false q h = inr (listed-two two three x h)
 
 module _ (numbers : List ℕ) where
   at-row : {A : Type 0} {gives : List ℕ} {P : ℕ → Type 0} {c : Outcome A} (code : ℕ) → listed numbers code ≡ true → Bounded P
@@ -295,7 +302,17 @@ module _ (f : List ℕ) where
       walked-within : (t : Descriptors) → Within readerNumbers (globalsOf f H t)
       walked-within t =
           let s = descriptorTable f t in
-          rows readerNumbers 8 9 refl refl (unread-position f H s 8) (global-position f H s) (table f .row-8 H t) (table f .row-9 H t)
+          let row-8 = at-row readerNumbers 8 refl (unread-position f H s 8) (table f .row-8 H t) in
+          let row-16 = at-row readerNumbers 16 refl (unread-position f H s 16) (table f .row-16 H t) in
+          let row-9 = at-row readerNumbers 9 refl (global-position f H s) (table f .row-9 H t) in
+          record {
+            within = λ r e. ⊎-elim
+                (λ (q : r .number ≡ 8). row-8 r e q)
+                (λ (q : (r .number ≡ 16) ⊎ (r .number ≡ 9)). ⊎-elim
+                (λ (x : r .number ≡ 16). row-16 r e x)
+                (λ (x : r .number ≡ 9). row-9 r e x) q)
+                (listed-three 8 16 9 (r .number) (table f .row-8 H t .only r e));
+          }
 
   abbrev M : Module
   M = theModule f

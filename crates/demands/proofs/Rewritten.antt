@@ -1,29 +1,39 @@
--- The globals that a descriptor table lists are taken by the writer, which gives its bytes back where every descriptor in it is in shortest form.
+-- The globals that a descriptor table lists are taken by the writer, which gives its bytes back; so tables that list the same are the same.
 -- Assumes nothing.
 use Prim.Native.Nat.{ℕ, zero, suc, _+_, _*_, _-_, _/_, _%_, _≤_, _<_}
 use mathlib.Core.Path.{_≡_, refl, sym, _∙_, subst}
-use mathlib.Core.Bool.{Bool, true, false, cond, not}
+use mathlib.Core.Bool.{Bool, true, false, cond, not, _&&_}
 use mathlib.Core.List.{List, [], _∷_, _++_, append-assoc}
+use mathlib.Core.Logic.{_⊎_, ⊎-elim}
 use native.Mathlib.Omega.{arith}
-use lib.ListN.{length, getD, drop, drop-of-length-le, length-map, List·getD-map}
-use lib.Dec.{leb, eqb}
-use borrow.Author.Tests.{leb-true, lt-ltb, le-ltb, eqb-true}
-use Rattle.rules.specs.Outcome.{good}
-use Rattle.rules.specs.Limits.{addressLimit, granule}
-use Rattle.rules.specs.Descriptors.{Uleb, number, malformed, ulebAt, padded, sizeLimit, shortSecond, shortFirst}
-use Rattle.rules.specs.Descriptors.{Read, finished, global, globalAfter, second, descriptor, tableStart}
-use Rattle.rules.specs.Writer.{uleb, descriptorOf, tableFrom, tableOf}
-use Rattle.rules.specs.Choices.{globalAt}
+use lib.ListN.{length, getD, drop, drop-of-length-le, length-map, length-take, List·getD-map, List·getD-eq-default}
+use lib.Dec.{ltb}
+use borrow.Author.Tests.{lt-ltb, le-ltb, ltb-false}
+use Rattle.rules.specs.Outcome.{good, bad, refusal, andThen}
+use Rattle.rules.specs.Limits.{addressLimit, globalLimit, granule}
+use Rattle.rules.specs.Bytes.{part}
+use Rattle.rules.specs.Segments.{inMemory}
+use Rattle.rules.specs.Descriptors.{number, ulebAt, sizeLimit, padded, shortSecond, shortAt, Descriptor}
+use Rattle.rules.specs.Descriptors.{Read, finished, global, stepAt, onGlobal, globalsFrom, globalsOf, tableStart}
+use Rattle.rules.specs.Writer.{descriptorOf, tableFrom, tableOf}
+use Rattle.rules.specs.Reader.{moduleOf}
+use Rattle.rules.specs.Choices.{globalAt, globalsIn}
+use Rattle.rules.specs.declared.Headers.{Headers}
 use Rattle.rules.specs.declared.Global.{Global}
 use Rattle.rules.specs.declared.Cursor.{Cursor}
-use Rattle.rules.proofs.OutcomeLaws.{bad-good, cond-held, and-left, and-right}
-use Rattle.laws.proofs.Checks.{good-same}
+use Rattle.rules.specs.declared.Module.{Module}
+use Rattle.rules.proofs.OutcomeLaws.{bad-good, false-true, andThen-good, cond-held, and-left, and-right}
+use Rattle.rules.proofs.DescriptorLaws.{short-one, short-two, short-small, short-large}
+use Rattle.laws.proofs.Checks.{good-same, le-or-lt}
 use Rattle.laws.proofs.Globals.{Chain, step-next, chain-at, chain-rise}
-use Rattle.demands.specs.Writer.{Whole, Fits, Takes, addressesOf, sizesOf, Lists, Shortest, WritesBack}
+use Rattle.demands.specs.Steps.{Says, in-one, in-two, Found}
+use Rattle.demands.specs.Writer.{Whole, Fits, Takes, addressesOf, sizesOf, Lists, WritesBack, Bytes, tableIn}
 use Rattle.demands.proofs.Spelling.{unpadded-tight, uleb-respelt}
-use Rattle.demands.proofs.Steps.{steps, step-descriptor}
-use Rattle.demands.proofs.Written.{written, written-reads}
-use Rattle.demands.proofs.Least.{lists-fewest}
+use Rattle.demands.proofs.Forms.{shortest-short}
+use Rattle.demands.proofs.Steps.{steps}
+use Rattle.demands.proofs.Reading.{module-reads}
+use Rattle.demands.proofs.Image.{part-at}
+use Rattle.demands.proofs.Written.{written}
 
 -- ---- they are taken
 
@@ -79,73 +89,125 @@ module _ (gs : List Global) where
         let b = length-map gs (λ (g : Global). granule * g .granules) in
         record { as-many = a ∙ sym b; fit = λ j l. chain-fits j (omega arith); room = room }
 
--- ---- a short descriptor stands as it is written
+-- ---- a descriptor in shortest form stands as it is written
 
--- what was read at a position stands there as it is written
-abbrev Rewrites : List ℕ → ℕ → ℕ → Read → Type 0
-Rewrites s at end finished = Unit
-Rewrites s at end (global g c) = drop at s ≡ written end g ++ drop (c .position) s
+module _ (s : List ℕ) (bytes : Bytes s) (at : ℕ) (d : Descriptor) (short : shortAt s at ≡ true) where
+  one-bytes : ulebAt s at ≡ number (sizeLimit * d .distance + d .granules) (d .next) → 1 ≤ d .granules → d .granules < sizeLimit
+      → drop at s ≡ descriptorOf (d .distance) (d .granules) ++ drop (d .next) s
+  one-bytes read some few =
+      let v = sizeLimit * d .distance + d .granules in
+      let form : not (padded s at (d .next)) ≡ true = sym (rw read (short-one s at v (d .next) (λ q. omega arith))) ∙ short in
+      rw (lt-ltb (d .granules) sizeLimit few) (uleb-respelt s bytes at v (d .next) read (unpadded-tight s at (d .next) form))
 
-module _ (s : List ℕ) (at index end : ℕ) (r : Read) where
-  global-rewrites : (distance granules next : ℕ) → drop at s ≡ descriptorOf distance granules ++ drop next s
-      → globalAfter index end distance granules next ≡ good r → Rewrites s at end r
-  unfolding globalAfter
-  global-rewrites distance granules next h e =
-      let d : (end + granule * distance - end) / granule ≡ distance = omega arith in
-      good-same (λ (r : Read). Rewrites s at end r) _ r
-      (cond-held _ (leb (end + granule * distance + granule * granules) addressLimit) _ e .1) (rw d h)
+  module _ (after less : ℕ) (read : ulebAt s at ≡ number (sizeLimit * d .distance) after) (more : ulebAt s after ≡ number less (d .next))
+      (size : d .granules ≡ less + 1) where
+    two-form : (not (padded s at after) && shortSecond s after (number less (d .next))) ≡ true
+    two-form = sym (rw (read, ← more) (short-two s at (sizeLimit * d .distance) after (omega arith))) ∙ short
 
-  module _ (bytes : (i : ℕ) → getD s i 0 < 256) where
-    second-rewrites : (distance next : ℕ) (u : Uleb) → ulebAt s next ≡ u → shortSecond s next u ≡ true
-        → drop at s ≡ uleb (sizeLimit * distance) ++ drop next s → second index end distance u ≡ good r → Rewrites s at end r
-    unfolding second shortSecond
-    second-rewrites distance next malformed q short h e = bad-good e
-    second-rewrites distance next (number v after) q short h e =
-        let many = leb-true sizeLimit (v + 1) (and-right (not (padded s next after)) (leb sizeLimit (v + 1)) short) in
-        let tight = unpadded-tight s next after (and-left (not (padded s next after)) (leb sizeLimit (v + 1)) short) in
-        let more = uleb-respelt s bytes next v after q tight in
-        let w : v + 1 - 1 ≡ v = omega arith in
-        global-rewrites distance (v + 1) after (rw (le-ltb (v + 1) sizeLimit many, w, append-assoc, ← more) h) e
+    two-bytes : drop at s ≡ descriptorOf (d .distance) (d .granules) ++ drop (d .next) s
+    two-bytes =
+        let then = and-right (not (padded s at after)) _ two-form in
+        let first = uleb-respelt s bytes at _ after read (unpadded-tight s at after (and-left _ _ two-form)) in
+        let k : less + 1 - 1 ≡ less = omega arith in
+        ⊎-elim
+        (λ l.
+        let second = uleb-respelt s bytes after less (d .next) more
+        (unpadded-tight s after (d .next) (rw (short-large s after less (d .next) l) at then)) in
+        rw (size, le-ltb (less + 1) sizeLimit l, k, append-assoc, ← second) first)
+        (λ l. false-true (rw (short-small s after less (d .next) l) at then))
+        (le-or-lt sizeLimit (less + 1))
 
-    descriptor-rewrites : (u : Uleb) → ulebAt s at ≡ u → shortFirst s at u ≡ true → descriptor index s end u ≡ good r → Rewrites s at end r
-    unfolding descriptor shortFirst
-    descriptor-rewrites malformed q short e = bad-good e
-    descriptor-rewrites (number v next) q short e =
-        let tight = unpadded-tight s at next (and-left (not (padded s at next)) _ short) in
-        go (eqb (v % sizeLimit) 0) refl (uleb-respelt s bytes at v next q tight) (and-right (not (padded s at next)) _ short) e
-      where
-        go : (b : Bool) → eqb (v % sizeLimit) 0 ≡ b → drop at s ≡ uleb v ++ drop next s
-            → cond b (shortSecond s next (ulebAt s next)) true ≡ true
-            → cond b (second index end (v / sizeLimit) (ulebAt s next)) (globalAfter index end (v / sizeLimit) (v % sizeLimit) next) ≡ good r
-            → Rewrites s at end r
-        go true z h t e =
-            let m = eqb-true (v % sizeLimit) 0 z in
-            let k : sizeLimit * (v / sizeLimit) ≡ v = omega arith in
-            second-rewrites (v / sizeLimit) next (ulebAt s next) refl t (rw k h) e
-        go false z h t e =
-            let k : sizeLimit * (v / sizeLimit) + v % sizeLimit ≡ v = omega arith in
-            global-rewrites (v / sizeLimit) (v % sizeLimit) next (rw (lt-ltb (v % sizeLimit) sizeLimit (omega arith), k) h) e
+  says-bytes : Says s at d → drop at s ≡ descriptorOf (d .distance) (d .granules) ++ drop (d .next) s
+  says-bytes (in-one read some few) = one-bytes read some few
+  says-bytes (in-two after less read more size) = two-bytes after less read more size
 
--- ---- and so does a table of such descriptors
+-- ---- and so does a table
 
-lists-bytes : (s : List ℕ) (i : ℕ) (c : Cursor) (gs : List Global) → ((i : ℕ) → getD s i 0 < 256) → Lists s i c gs → Shortest s i c gs
+found-bytes : (s : List ℕ) (c : Cursor) (g : Global) (next : Cursor) → Bytes s → Found s c g next
+    → drop (c .position) s ≡ written (c .end) g ++ drop (next .position) s
+found-bytes s c g next bytes f =
+    let d = f .said in
+    let short = shortest-short s (c .position) d (f .says) (f .shortest) in
+    let a = f .start in
+    let k : (g .start - c .end) / granule ≡ d .distance = omega arith in
+    rw (k, f .size, f .position) (says-bytes s bytes (c .position) d short (f .says))
+
+lists-bytes : (s : List ℕ) (i : ℕ) (c : Cursor) (gs : List Global) → Bytes s → Lists s i c gs
     → drop (c .position) s ≡ tableFrom (c .end) (addressesOf gs) (sizesOf gs)
 unfolding tableFrom
-lists-bytes s i c [] bytes l short = let e = steps i s c .step-finished l in drop-of-length-le s {i = c .position} (omega arith)
-lists-bytes s i c (g ∷ gs) bytes l short =
-    let d = step-descriptor i s c g (l .next) (l .reads) in
-    let h = descriptor-rewrites s (c .position) i (c .end) (global g (l .next)) bytes (ulebAt s (c .position)) refl (short .0) d in
+lists-bytes s i c [] bytes l = let e = steps i s c .step-finished l in drop-of-length-le s {i = c .position} (omega arith)
+lists-bytes s i c (g ∷ gs) bytes l =
+    let h = found-bytes s c g (l .next) bytes (steps i s c .step-global g (l .next) (l .reads)) in
     let e : granule * g .granules / granule ≡ g .granules = omega arith in
-    let k = steps i s c .step-global g (l .next) (l .reads) .ends in
-    let rest = lists-bytes s (i + 1) (l .next) gs bytes (l .rest) (short .1 (l .next) (l .reads)) in
+    let k = steps i s c .moved g (l .next) (l .reads) .ends in
+    let rest = lists-bytes s (i + 1) (l .next) gs bytes (l .rest) in
     rw (e, h, rest, k)
 
-pub write-back : (s : List ℕ) (gs : List Global) → ((i : ℕ) → getD s i 0 < 256) → Lists s 0 tableStart gs → WritesBack s gs
+pub write-back : (s : List ℕ) (gs : List Global) → Bytes s → Lists s 0 tableStart gs → WritesBack s gs
 write-back s gs bytes l =
-    let chain = lists-chain s 0 tableStart gs l in
-    record {
-      takes = chain-takes gs chain;
-      back-if = λ short. sym (lists-bytes s 0 tableStart gs bytes l short);
-      back-only-if = λ e. written-reads s 0 tableStart gs refl (omega arith) (omega arith) chain (sym e) .1;
-      least = omega (arith, lists-fewest s 0 tableStart gs l);
-    }
+    let back = lists-bytes s 0 tableStart gs bytes l in
+    record { takes = λ n room. chain-takes gs (lists-chain s 0 tableStart gs l) n (rw (← back) room); back = sym back }
+
+pub one-table : (s t : List ℕ) (gs : List Global) → Bytes s → Bytes t → Lists s 0 tableStart gs → Lists t 0 tableStart gs → s ≡ t
+one-table s t gs a b k l = sym (write-back s gs a k .back) ∙ write-back t gs b l .back
+
+-- ---- a module's table
+
+-- what the walk finds is what the reader's steps list
+walk-lists : (f : List ℕ) (h : Headers) (s : List ℕ) (n i : ℕ) (c : Cursor) (gs : List Global) → c .position ≤ length s → c .end % granule ≡ 0
+    → c .end ≤ addressLimit → globalsFrom f h s n i c ≡ good gs → Lists s i c gs
+unfolding globalsFrom
+walk-lists f h s zero i c gs within whole low e = go (ltb (c .position) (length s)) refl e
+  where
+    go : (b : Bool) → ltb (c .position) (length s) ≡ b → cond b (bad (refusal 9 i)) (good []) ≡ good gs → Lists s i c gs
+    go true q e = bad-good e
+    go false q e =
+        let l = ltb-false (c .position) (length s) q in
+        good-same (λ (gs : List Global). Lists s i c gs) [] gs e (steps i s c .finished-step (omega arith) whole low)
+walk-lists f h s (suc n) i c gs within whole low e =
+    let a = andThen-good (stepAt i s c) _ e in
+    go (a .value) (a .here) (a .rest) (walk-lists f h s n (i + 1))
+  where
+    go : (r : Read) → stepAt i s c ≡ good r
+        → onGlobal r (λ g next. cond (inMemory f h false (g .start) (granule * g .granules))
+        (andThen (globalsFrom f h s n (i + 1) next) (λ gs. good (g ∷ gs))) (bad (refusal 9 i))) ≡ good gs
+        → ((next : Cursor) (gs : List Global) → next .position ≤ length s → next .end % granule ≡ 0 → next .end ≤ addressLimit
+        → globalsFrom f h s n (i + 1) next ≡ good gs → Lists s (i + 1) next gs)
+        → Lists s i c gs
+    go finished x q again = good-same (λ (gs : List Global). Lists s i c gs) [] gs q x
+    go (global g next) x q again =
+        let t = cond-held _ (inMemory f h false (g .start) (granule * g .granules)) _ q in
+        let u = andThen-good (globalsFrom f h s n (i + 1) next) _ (t .1) in
+        let m = steps i s c .moved g next x in
+        good-same (λ (gs : List Global). Lists s i c gs) (g ∷ u .value) gs (u .rest)
+        (record { next = next; reads = x; rest = again next (u .value) (m .within) (m .whole) (m .low) (u .here) })
+
+-- a part of bytes is bytes
+part-bytes : (f : List ℕ) (at n : ℕ) → Bytes f → Bytes (part f at n)
+part-bytes f at n bytes i =
+    ⊎-elim
+    (λ l.
+    let k = length-take n (drop at f) in
+    let e : getD (part f at n) i 0 ≡ 0 = List·getD-eq-default (part f at n) 0 (omega arith) in
+    omega arith)
+    (λ l. rw (part-at f at n i l) (bytes (at + i)))
+    (le-or-lt n i)
+
+module _ (f : List ℕ) (m : Module) (bytes : Bytes f) (e : moduleOf f ≡ good m) where
+  table-bytes : Bytes (tableIn f m)
+  table-bytes = part-bytes f (m .descriptors .at) (m .descriptors .bytes) bytes
+
+  module-lists : Lists (tableIn f m) 0 tableStart (globalsIn f m)
+  unfolding globalsOf
+  module-lists =
+      walk-lists f (m .headers) (tableIn f m) globalLimit 0 tableStart (globalsIn f m) (omega arith) refl (omega arith) (module-reads f m e .globals)
+
+  pub module-table : Lists (tableIn f m) 0 tableStart (globalsIn f m) × WritesBack (tableIn f m) (globalsIn f m)
+  module-table = (module-lists, write-back (tableIn f m) (globalsIn f m) table-bytes module-lists)
+
+pub one-module-table : (f g : List ℕ) (m n : Module) → Bytes f → Bytes g → moduleOf f ≡ good m → moduleOf g ≡ good n
+    → globalsIn f m ≡ globalsIn g n → tableIn f m ≡ tableIn g n
+one-module-table f g m n a b d e same =
+    let t = module-table f m a d .1 .back in
+    let u = module-table g n b e .1 .back in
+    sym t ∙ rw same u

@@ -14,7 +14,7 @@ use Rattle.rules.specs.Plane.{planeOf}
 use Rattle.rules.specs.Words.{Source, none, at, tagOf}
 use Rattle.rules.specs.declared.Global.{Global}
 use Rattle.rules.proofs.OutcomeLaws.{and-left}
-use Rattle.laws.proofs.Checks.{cond-case}
+use Rattle.rules.proofs.BoolLaws.{cond-case}
 use Rattle.laws.proofs.Globals.{Rising}
 use Rattle.demands.proofs.Plane.{plane-holds, plane-empty}
 use Rattle.demands.specs.Demands.{Holds}

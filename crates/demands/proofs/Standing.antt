@@ -1,4 +1,4 @@
--- What holds of a load that passes checks 1 to 14, and what it leaves.
+-- What holds of a load that passes every check, and what it leaves.
 -- Assumes nothing.
 use Prim.Native.Nat.{ℕ, _+_, _*_, _^_, _≤_, _<_}
 use mathlib.Core.Path.{_≡_, refl, _∙_}

@@ -1,6 +1,6 @@
 -- Each check refuses as its row of the table says, and no other way.
 -- Assumes nothing.
-use Prim.Native.Nat.{ℕ, zero, suc, _+_, _*_, _-_, _/_, _%_, _≤_, _<_}
+use Prim.Native.Nat.{ℕ, zero, suc, _+_, _*_, _-_, _/_, _≤_, _<_}
 use mathlib.Core.Path.{_≡_, refl, sym, ap, _∙_, subst}
 use mathlib.Core.Bool.{Bool, true, false, cond, not, _&&_}
 use mathlib.Core.List.{List, [], _∷_}
@@ -12,15 +12,14 @@ use lib.ListN.{length}
 use lib.Dec.{leb, ltb, eqb}
 use borrow.Author.Tests.{leb-false, lt-leb, ltb-true, ltb-false, lt-ltb, le-ltb, eqb-true, eqb-false, eq-eqb, ne-eqb, not-true, not-false}
 use Rattle.rules.specs.Outcome.{Outcome, good, bad, refusal, andThen, require}
-use Rattle.rules.specs.Limits.{fileLeast, fileLimit, entryLimit, globalLimit, granule, addressLimit}
+use Rattle.rules.specs.Limits.{fileLeast, fileLimit, entryLimit, globalLimit, granule}
 use Rattle.rules.specs.First.{first, someBelow, faultsAt, faultless}
 use Rattle.rules.specs.Headers.{sizeCheck, wrongByte, identificationCheck, headerCheck}
 use Rattle.rules.specs.Segments.{badLoad, loadsCheck, inMemory}
 use Rattle.rules.specs.Dynamic.{isDynamicAt, dynamicFrom, firstDynamic, secondDynamic, goodSize, nullEntry, dynamicAt, dynamicOf}
 use Rattle.rules.specs.Dynamic.{knownTags, badEntry, partnerless, entriesCheck}
 use Rattle.rules.specs.Tables.{tableBacking, backed, relaAddress, relaBytes, descriptorAddress, descriptorBytes, relocationsOf, descriptorsOf}
-use Rattle.rules.specs.Descriptors.{Uleb, number, malformed, Read, finished, global, ulebAt, globalAfter, second, descriptor, stepAt}
-use Rattle.rules.specs.Descriptors.{onGlobal, globalsFrom, globalsOf, descriptorTable, tableStart}
+use Rattle.rules.specs.Descriptors.{Read, finished, global, stepAt, onGlobal, globalsFrom, globalsOf, descriptorTable, tableStart}
 use Rattle.rules.specs.Relocations.{items, positionAt, targetAt, barred, badRelocation, firstBad, relocationsCheck}
 use Rattle.rules.specs.Lending.{lendingFits, lendingCheck}
 use Rattle.rules.specs.Addresses.{badAddress, addressesCheck}
@@ -39,6 +38,7 @@ use Rattle.rules.proofs.FirstLaws.{first-le, at-some}
 use Rattle.rules.proofs.OutcomeLaws.{good-bad, never, require-held}
 use Rattle.laws.proofs.Checks.{andThen-bad, require-stopped, faultless-all, all-faultless, some-at}
 use Rattle.laws.proofs.PackedTable.{backed-bad}
+use Rattle.demands.proofs.Steps.{step-numbers}
 use Rattle.demands.proofs.PackedFaults.{packed-says, packed-when}
 use Rattle.demands.proofs.Lowest.{cond-bad, lowest-first, first-lowest, clear-first, first-clear, faultless-lowest, lowest-faultless}
 use Rattle.demands.specs.Table.{listed, Lowest, Reaches, Row, Table}
@@ -48,6 +48,13 @@ use Rattle.demands.specs.Table.{GlobalFault, ends-high, outside-loads, l
 -- a refusal with a number, at a position
 abbrev By : ℕ → (ℕ → Type 0) → Refusal → Type 0
 By code P r = (i : ℕ) × ((r ≡ refusal code i) × P i)
+
+-- or with one of two, or of three
+abbrev ByTwo : ℕ → ℕ → (ℕ → Type 0) → (ℕ → Type 0) → Refusal → Type 0
+ByTwo one two P Q r = By one P r ⊎ By two Q r
+
+abbrev ByThree : ℕ → ℕ → ℕ → (ℕ → Type 0) → (ℕ → Type 0) → (ℕ → Type 0) → Refusal → Type 0
+ByThree one two three P Q R r = By one P r ⊎ ByTwo two three Q R r
 
 -- a check refuses so, and no other way
 record Refuses {A : Type 0} (c : Outcome A) (Says : Refusal → Type 0) : Type 0 where
@@ -119,44 +126,6 @@ row-descriptors : (f : List ℕ) (h : Headers) (d : Dynamic) → tableBacking f 
     → descriptorsOf f h d ≡ bad (refusal 7 1)
 unfolding descriptorsOf
 row-descriptors f h d e = rw e
-
--- ---- checks 8 and 9
-
--- reading one descriptor refuses with 8 or 9 at the index handed in
-abbrev pub EightOrNine : ℕ → Refusal → Type 0
-EightOrNine index r = (r ≡ refusal 8 index) ⊎ (r ≡ refusal 9 index)
-
-global-refusal : {r : Refusal} (index end distance granules next : ℕ) → globalAfter index end distance granules next ≡ bad r → EightOrNine index r
-unfolding globalAfter
-global-refusal index end distance granules next e =
-    cond-bad (leb (end + granule * distance + granule * granules) addressLimit) _ (refusal 9 index) e
-    (λ _ q. good-bad q) (λ _ q. inr q)
-
-second-refusal : {r : Refusal} (index end distance : ℕ) (u : Uleb) → second index end distance u ≡ bad r → EightOrNine index r
-unfolding second
-second-refusal index end distance (number v next) e = global-refusal index end distance (v + 1) next e
-second-refusal index end distance malformed e = inl (cc)
-
-descriptor-refusal : {r : Refusal} (index : ℕ) (s : List ℕ) (end : ℕ) (u : Uleb) → descriptor index s end u ≡ bad r → EightOrNine index r
-unfolding descriptor
-descriptor-refusal {r} index s end (number v next) e = go (eqb (v % 8) 0) e
-  where
-    go : (b : Bool) → cond b (second index end (v / 8) (ulebAt s next)) (globalAfter index end (v / 8) (v % 8) next) ≡ bad r → EightOrNine index r
-    go true q = second-refusal index end (v / 8) (ulebAt s next) q
-    go false q = global-refusal index end (v / 8) (v % 8) next q
-descriptor-refusal index s end malformed e = inl (cc)
-
-pub step-refusal : {r : Refusal} (index : ℕ) (s : List ℕ) (c : Cursor) → stepAt index s c ≡ bad r → EightOrNine index r
-unfolding stepAt
-step-refusal {r} index s c e =
-    cond-bad (leb (c .position) (length s)) _ (refusal 8 index) e (λ _ e.
-    cond-bad (eqb (c .end % granule) 0) _ (refusal 9 index) e (λ _ e.
-    cond-bad (leb (c .end) addressLimit) _ (refusal 9 index) e (λ _ e. go (ltb (c .position) (length s)) e)
-    (λ _ q. inr q)) (λ _ q. inr q)) (λ _ q. inl q)
-  where
-    go : (b : Bool) → cond b (descriptor index s (c .end) (ulebAt s (c .position))) (good finished) ≡ bad r → EightOrNine index r
-    go true q = descriptor-refusal index s (c .end) (ulebAt s (c .position)) q
-    go false q = good-bad q
 
 -- ---- the rows
 
@@ -245,7 +214,8 @@ module _ (f : List ℕ) where
 
   module _ (h : Headers) (t : Descriptors) where
     abbrev Faulty : Refusal → Type 0
-    Faulty r = By 8 (Unread f h (descriptorTable f t) 8) r ⊎ By 9 (GlobalFault f h (descriptorTable f t)) r
+    Faulty r =
+        ByThree 8 16 9 (Unread f h (descriptorTable f t) 8) (Unread f h (descriptorTable f t) 16) (GlobalFault f h (descriptorTable f t)) r
 
     walk-says : {r : Refusal} (k i : ℕ) (c : Cursor) → i + k ≡ globalLimit → Reaches f h (descriptorTable f t) i c
         → globalsFrom f h (descriptorTable f t) k i c ≡ bad r → Faulty r
@@ -254,14 +224,16 @@ module _ (f : List ℕ) where
       where
         go : (b : Bool) → ltb (c .position) (length (descriptorTable f t)) ≡ b
             → cond {A = Outcome (List Global)} b (bad (refusal 9 i)) (good []) ≡ bad r → Faulty r
-        go true q x = inr (i, (cc, left-over c (omega arith) w (ltb-true _ _ q)))
+        go true q x = inr (inr (i, (cc, left-over c (omega arith) w (ltb-true _ _ q))))
         go false q x = good-bad x
     walk-says {r} (suc k) i c l w e =
         andThen-bad (stepAt i (descriptorTable f t) c) _ e
         (λ q. ⊎-elim
         (λ (x : r ≡ refusal 8 i). inl (i, (x, unread 8 x q)))
-        (λ (x : r ≡ refusal 9 i). inr (i, (x, ends-high (unread 9 x q))))
-        (step-refusal i (descriptorTable f t) c q))
+        (λ (y : (r ≡ refusal 16 i) ⊎ (r ≡ refusal 9 i)). ⊎-elim
+        (λ (x : r ≡ refusal 16 i). inr (inl (i, (x, unread 16 x q))))
+        (λ (x : r ≡ refusal 9 i). inr (inr (i, (x, ends-high (unread 9 x q))))) y)
+        (step-numbers i (descriptorTable f t) c r q))
         (λ x q s. go x q s (walk-says k (i + 1)))
       where
         unread : (code : ℕ) → r ≡ refusal code i → stepAt i (descriptorTable f t) c ≡ bad r → Unread f h (descriptorTable f t) code i
@@ -280,7 +252,7 @@ module _ (f : List ℕ) where
             andThen-bad (globalsFrom f h (descriptorTable f t) k (i + 1) next) _ s
             (again next (omega arith) (rw add-one (record { cursor = c; before = w; read = x; reads = q; inside = a })))
             (λ _ _ s. good-bad s))
-            (λ a s. inr (i, (s, outside-loads c next x (omega arith) w q a)))
+            (λ a s. inr (inr (i, (s, outside-loads c next x (omega arith) w q a))))
 
     -- a walk that comes to an index and is refused there is refused
     reached : {r : Refusal} (total i : ℕ) (c : Cursor) → i ≤ total → Reaches f h (descriptorTable f t) i c
@@ -312,7 +284,9 @@ module _ (f : List ℕ) where
       says = λ r e. walk-says globalLimit 0 tableStart (omega arith) refl e;
       when = λ r w. ⊎-elim
           (λ (u : By 8 (Unread f h (descriptorTable f t) 8) r). unread-when 8 (u .0) (u .1 .1) ∙ rw (u .1 .0))
-          (λ (u : By 9 (GlobalFault f h (descriptorTable f t)) r). fault-when (u .0) (u .1 .1) ∙ rw (u .1 .0)) w;
+          (λ (v : By 16 (Unread f h (descriptorTable f t) 16) r ⊎ By 9 (GlobalFault f h (descriptorTable f t)) r). ⊎-elim
+          (λ (u : By 16 (Unread f h (descriptorTable f t) 16) r). unread-when 16 (u .0) (u .1 .1) ∙ rw (u .1 .0))
+          (λ (u : By 9 (GlobalFault f h (descriptorTable f t)) r). fault-when (u .0) (u .1 .1) ∙ rw (u .1 .0)) v) w;
     }
 
   module _ (m : Module) where
@@ -399,9 +373,6 @@ one-row code t = record {
   when = λ i w. t .when (refusal code i) (i, (refl, w));
 }
 
-abbrev ByTwo : ℕ → ℕ → (ℕ → Type 0) → (ℕ → Type 0) → Refusal → Type 0
-ByTwo one two P Q r = By one P r ⊎ By two Q r
-
 module _ {A : Type 0} {P Q : ℕ → Type 0} {c : Outcome A} (one two : ℕ) (apart : one ≡ two → ⊥) (t : Refuses c (ByTwo one two P Q)) where
   only-two : (r : Refusal) → c ≡ bad r → listed (one ∷ two ∷ []) (r .number) ≡ true
   only-two r e =
@@ -430,6 +401,59 @@ module _ {A : Type 0} {P Q : ℕ → Type 0} {c : Outcome A} (one two : ℕ) (ap
     when = λ i w. t .when (refusal two i) (inr (i, (refl, w)));
   }
 
+-- and of three
+record Apart (one two three : ℕ) : Type 0 where
+  first-second : one ≡ two → ⊥
+  first-third : one ≡ three → ⊥
+  second-third : two ≡ three → ⊥
+
+module _ {A : Type 0} {P Q R : ℕ → Type 0} {c : Outcome A} (one two three : ℕ) (apart : Apart one two three)
+    (t : Refuses c (ByThree one two three P Q R)) where
+  abbrev three-numbers : List ℕ
+  three-numbers = one ∷ two ∷ three ∷ []
+
+  -- by whichever it is
+  which : {T : Type 0} (r : Refusal) → (By one P r → T) → (By two Q r → T) → (By three R r → T) → c ≡ bad r → T
+  which r f g h e = ⊎-elim f (λ (v : ByTwo two three Q R r). ⊎-elim g h v) (t .says r e)
+
+  only-three : (r : Refusal) → c ≡ bad r → listed three-numbers (r .number) ≡ true
+  only-three r e =
+      which r
+      (λ w. rw (w .1 .0, eq-eqb one one refl))
+      (λ w. rw (w .1 .0, ne-eqb one two (apart .first-second), eq-eqb two two refl))
+      (λ w. rw (w .1 .0, ne-eqb one three (apart .first-third), ne-eqb two three (apart .second-third), eq-eqb three three refl))
+      e
+
+  -- no other number is this one
+  other : {T : Type 0} {S : ℕ → Type 0} (code number i : ℕ) → (code ≡ number → ⊥) → By number S (refusal code i) → T
+  other code number i differ w = absurd (differ (ap (λ (r : Refusal). r .number) (w .1 .0)))
+
+  three-first : Row c three-numbers one P
+  three-first = record {
+    only = only-three;
+    says = λ i e. which (refusal one i) (same-position one i) (other one two i (apart .first-second)) (other one three i (apart .first-third)) e;
+    when = λ i w. t .when (refusal one i) (inl (i, (refl, w)));
+  }
+
+  three-second : Row c three-numbers two Q
+  three-second = record {
+    only = only-three;
+    says = λ i e. which (refusal two i) (other two one i (λ z. apart .first-second (sym z))) (same-position two i)
+        (other two three i (apart .second-third)) e;
+    when = λ i w. t .when (refusal two i) (inr (inl (i, (refl, w))));
+  }
+
+  three-third : Row c three-numbers three R
+  three-third = record {
+    only = only-three;
+    says = λ i e. which (refusal three i) (other three one i (λ z. apart .first-third (sym z)))
+        (other three two i (λ z. apart .second-third (sym z))) (same-position three i) e;
+    when = λ i w. t .when (refusal three i) (inr (inr (i, (refl, w))));
+  }
+
+walk-apart : Apart 8 16 9
+walk-apart = record { first-second = λ z. omega arith; first-third = λ z. omega arith; second-third = λ z. omega arith }
+
 pub table : (f : List ℕ) → Table f
 unfolding identificationCheck headerCheck loadsCheck lendingCheck addressesCheck
 table f = record {
@@ -454,8 +478,9 @@ table f = record {
     says = packed-says f h d r few;
     when = λ q w. packed-when f h d r few (w .0) (w .1 .1) ∙ rw (w .1 .0);
   });
-  row-8 = λ h t. first-row 8 9 (λ z. omega arith) (walk-refuses f h t);
-  row-9 = λ h t. second-row 8 9 (λ z. omega arith) (walk-refuses f h t);
+  row-8 = λ h t. three-first 8 16 9 walk-apart (walk-refuses f h t);
+  row-16 = λ h t. three-second 8 16 9 walk-apart (walk-refuses f h t);
+  row-9 = λ h t. three-third 8 16 9 walk-apart (walk-refuses f h t);
   row-10 = λ m. first-row 10 11 (λ z. omega arith) (item-refuses f m);
   row-11 = λ m. second-row 10 11 (λ z. omega arith) (item-refuses f m);
   row-12 = λ m bias n p. one-row 12 (require-refuses (lendingFits f m bias n p) 12 0 (λ e. e) (λ e. e));

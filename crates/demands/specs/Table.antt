@@ -34,13 +34,17 @@ use Rattle.rules.specs.declared.Module.{Module}
 -- ---- the numbers of each call; they need not be an interval
 
 abbrev pub readerNumbers : List ℕ
-readerNumbers = 1 ∷ 2 ∷ 3 ∷ 4 ∷ 5 ∷ 6 ∷ 7 ∷ 15 ∷ 8 ∷ 9 ∷ []
+readerNumbers = 1 ∷ 2 ∷ 3 ∷ 4 ∷ 5 ∷ 6 ∷ 7 ∷ 15 ∷ 8 ∷ 16 ∷ 9 ∷ []
 
 abbrev pub examineNumbers : List ℕ
 examineNumbers = readerNumbers ++ (10 ∷ 11 ∷ [])
 
 abbrev pub loadNumbers : List ℕ
 loadNumbers = examineNumbers ++ (12 ∷ 13 ∷ 14 ∷ [])
+
+-- those of the walk over the descriptors
+abbrev pub walkNumbers : List ℕ
+walkNumbers = 8 ∷ 16 ∷ 9 ∷ []
 
 -- positions are at most this: as many entries as there may be, and the words of a packed table that fills the file
 abbrev pub positionLimit : ℕ
@@ -100,7 +104,7 @@ pub data PackedFault (f : List ℕ) (h : Headers) (d : Dynamic) (entries i : ℕ
       → le 8 f at % 2 ≡ 0 → entries + length (packedBefore f at i) ≤ entryLimit
       → entryLimit < entries + length (packedBefore f at (i + 1)) → PackedFault f h d entries i
 
--- the first descriptor that does not read
+-- the first descriptor that a step refuses with a number
 pub record Unread (f : List ℕ) (h : Headers) (s : List ℕ) (number i : ℕ) : Type 0 where
   pub cursor : Cursor
   pub counted : i < globalLimit
@@ -136,7 +140,7 @@ pub record Row {A : Type 0} (c : Outcome A) (gives : List ℕ) (number : ℕ) (A
   pub says : (i : ℕ) → c ≡ bad (refusal number i) → At i
   pub when : (i : ℕ) → At i → c ≡ bad (refusal number i)
 
--- 7 has two rows, as document 01 has two positions; 8 and 9 come from one walk, 10 and 11 from another
+-- 7 has two rows, as document 01 has two positions; 8, 16 and 9 come from one walk, 10 and 11 from another
 pub record Table (f : List ℕ) : Type 0 where
   pub row-1 : Row (sizeCheck f) (1 ∷ []) 1 (λ i. (i ≡ 0) × ((length f < fileLeast) ⊎ (fileLimit < length f)))
   pub row-2 : Row (identificationCheck f) (2 ∷ []) 2 (Lowest (wrongByte f) 0 7)
@@ -151,8 +155,9 @@ pub record Table (f : List ℕ) : Type 0 where
       × (tableBacking f h (descriptorAddress f d) (descriptorBytes f d) ≡ Nowhere))
   pub row-15 : (h : Headers) (d : Dynamic) (r : Relocations) → r .entries ≤ entryLimit
       → Row (packedOf f h d r) (15 ∷ []) 15 (PackedFault f h d (r .entries))
-  pub row-8 : (h : Headers) (t : Descriptors) → Row (globalsOf f h t) (8 ∷ 9 ∷ []) 8 (Unread f h (descriptorTable f t) 8)
-  pub row-9 : (h : Headers) (t : Descriptors) → Row (globalsOf f h t) (8 ∷ 9 ∷ []) 9 (GlobalFault f h (descriptorTable f t))
+  pub row-8 : (h : Headers) (t : Descriptors) → Row (globalsOf f h t) walkNumbers 8 (Unread f h (descriptorTable f t) 8)
+  pub row-16 : (h : Headers) (t : Descriptors) → Row (globalsOf f h t) walkNumbers 16 (Unread f h (descriptorTable f t) 16)
+  pub row-9 : (h : Headers) (t : Descriptors) → Row (globalsOf f h t) walkNumbers 9 (GlobalFault f h (descriptorTable f t))
   pub row-10 : (m : Module) → Row (relocationsCheck f m) (10 ∷ 11 ∷ []) 10 (ItemAt f m true)
   pub row-11 : (m : Module) → Row (relocationsCheck f m) (10 ∷ 11 ∷ []) 11 (ItemAt f m false)
   pub row-12 : (m : Module) (bias n p : ℕ)

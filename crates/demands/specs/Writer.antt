@@ -7,11 +7,14 @@ use mathlib.Core.List.{List, [], _∷_, _++_, map}
 use lib.ListN.{length, getD, drop}
 use Rattle.rules.specs.Outcome.{Outcome, good, bad, refusal}
 use Rattle.rules.specs.Limits.{addressLimit, granule}
-use Rattle.rules.specs.Descriptors.{finished, global, shortAt, stepAt, tableStart}
+use Rattle.rules.specs.Descriptors.{finished, global, stepAt, tableStart, descriptorTable}
+use Rattle.rules.specs.Choices.{globalsIn}
+use Rattle.rules.specs.Reader.{moduleOf}
 use Rattle.rules.specs.Writer.{tableOf, writtenOf, lengthAfter, bufferAfter}
 use Rattle.rules.specs.declared.Refusal.{Refusal}
 use Rattle.rules.specs.declared.Global.{Global}
 use Rattle.rules.specs.declared.Cursor.{Cursor}
+use Rattle.rules.specs.declared.Module.{Module}
 use Rattle.demands.specs.Table.{listed}
 
 -- ---- which lists are taken
@@ -94,27 +97,25 @@ abbrev pub Lists : List ℕ → ℕ → Cursor → List Global → Type 0
 Lists s i c [] = stepAt i s c ≡ good finished
 Lists s i c (g ∷ gs) = Gives (λ next. Lists s (i + 1) next gs) s i c g
 
--- each of the descriptors of these globals, from a cursor on, is in shortest form
-abbrev pub Shortest : List ℕ → ℕ → Cursor → List Global → Type 0
-Shortest s i c [] = Unit
-Shortest s i c (g ∷ gs) =
-    (shortAt s (c .position) ≡ true) × ((next : Cursor) → stepAt i s c ≡ good (global g next) → Shortest s (i + 1) next gs)
-
--- what was written reads back as the lists, in shortest form
+-- what was written reads back as the lists
 pub record ReadsBack (addresses sizes : List ℕ) : Type 0 where
   pub globals : List Global
   pub reads : Lists (tableOf addresses sizes) 0 tableStart globals
   pub same-addresses : addressesOf globals ≡ addresses
   pub same-sizes : sizesOf globals ≡ sizes
-  pub shortest : Shortest (tableOf addresses sizes) 0 tableStart globals
 
--- the globals that were read from a table are taken, and writing them gives its bytes back exactly where every descriptor in it
--- is in shortest form; no table that lists them is shorter than the one written
+-- the globals that were read from a table are taken, and writing them gives its bytes back
 pub record WritesBack (s : List ℕ) (gs : List Global) : Type 0 where
-  pub takes : (n : ℕ) → length (tableOf (addressesOf gs) (sizesOf gs)) ≤ n → Takes (addressesOf gs) (sizesOf gs) n
-  pub back-if : Shortest s 0 tableStart gs → tableOf (addressesOf gs) (sizesOf gs) ≡ s
-  pub back-only-if : tableOf (addressesOf gs) (sizesOf gs) ≡ s → Shortest s 0 tableStart gs
-  pub least : length (tableOf (addressesOf gs) (sizesOf gs)) ≤ length s
+  pub takes : (n : ℕ) → length s ≤ n → Takes (addressesOf gs) (sizesOf gs) n
+  pub back : tableOf (addressesOf gs) (sizesOf gs) ≡ s
+
+-- each element is a byte; past the end stands 0
+abbrev pub Bytes : List ℕ → Type 0
+Bytes s = (i : ℕ) → getD s i 0 < 256
+
+-- a module's descriptor table
+abbrev pub tableIn : List ℕ → Module → List ℕ
+tableIn f m = descriptorTable f (m .descriptors)
 
 -- ---- a call
 
@@ -134,6 +135,13 @@ pub record WriteKept (addresses sizes lent left : List ℕ) (answer : Outcome �
 pub record WriterClaim : Type 0 where
   pub writes : (addresses sizes : List ℕ) (n : ℕ) → Writes addresses sizes n
   pub read-back : (addresses sizes : List ℕ) (n : ℕ) → Takes addresses sizes n → ReadsBack addresses sizes
-  pub write-back : (s : List ℕ) (gs : List Global) → ((i : ℕ) → getD s i 0 < 256) → Lists s 0 tableStart gs → WritesBack s gs
+  pub write-back : (s : List ℕ) (gs : List Global) → Bytes s → Lists s 0 tableStart gs → WritesBack s gs
+  -- two tables that list the same globals are the same bytes
+  pub one-table : (s t : List ℕ) (gs : List Global) → Bytes s → Bytes t → Lists s 0 tableStart gs → Lists t 0 tableStart gs → s ≡ t
+  -- a module that is read has the table that is written of its globals; and two with the same globals have the same one
+  pub module-table : (f : List ℕ) (m : Module) → Bytes f → moduleOf f ≡ good m
+      → Lists (tableIn f m) 0 tableStart (globalsIn f m) × WritesBack (tableIn f m) (globalsIn f m)
+  pub one-module-table : (f g : List ℕ) (m n : Module) → Bytes f → Bytes g → moduleOf f ≡ good m → moduleOf g ≡ good n
+      → globalsIn f m ≡ globalsIn g n → tableIn f m ≡ tableIn g n
   pub kept : (addresses sizes lent left : List ℕ) (answer : Outcome ℕ) → WriteCall addresses sizes lent left answer
       → WriteKept addresses sizes lent left answer
