@@ -11,7 +11,8 @@ use Rattle.rules.specs.Dynamic.{isDynamicAt, dynamicFrom, isNullAt, nullEntry, 
 use Rattle.rules.specs.Dynamic.{isRow, rowOf, hasTagAt, tagBefore, badEntry, hasTag, partnerless, entriesCheck, entryOf}
 use Rattle.rules.specs.Tables.{tableBacking, relocationsOf, descriptorsOf}
 use Rattle.rules.specs.Packed.{placesIn, placesOf, runAfter, packedFrom, isPlaceAt, badWord, packedOf}
-use Rattle.rules.specs.Descriptors.{ulebIn, globalAfter, second, descriptor, stepAt, globalsFrom, globalsOf}
+use Rattle.rules.specs.Descriptors.{ulebIn, shortSecond, shortFirst, second, descriptor, globalAfter, readAt, stepAt}
+use Rattle.rules.specs.Descriptors.{globalsFrom, globalsOf}
 use Rattle.rules.specs.Relocations.{placeAt, addendAt, live, positionAt, targetAt}
 use Rattle.rules.specs.Relocations.{symbolBacking, symbolOf, targetOf, namedTarget, target, hasPlace, taken, placeFits, goodPlace}
 use Rattle.rules.specs.Relocations.{badRelocation, firstBad, relocationsCheck, wordsOf}
@@ -24,7 +25,7 @@ unfolding le first countBelow over put sizeCheck wrongByte identificationCheck g
     headerAt powerBelow aligned goodLoad endBefore badLoad loadsCheck covers backs backsAt backer backingOf holds holdsAt inMemory
     isDynamicAt dynamicFrom isNullAt nullEntry goodSize dynamicAt dynamicOf isRow rowOf hasTagAt tagBefore badEntry hasTag partnerless
     entriesCheck entryOf tableBacking relocationsOf descriptorsOf placesIn placesOf runAfter packedFrom isPlaceAt
-    badWord packedOf ulebIn globalAfter second descriptor stepAt globalsFrom globalsOf moduleOf
+    badWord packedOf ulebIn shortSecond shortFirst second descriptor globalAfter readAt stepAt globalsFrom globalsOf moduleOf
     placeAt addendAt live positionAt targetAt symbolBacking symbolOf targetOf namedTarget target hasPlace taken placeFits goodPlace badRelocation firstBad
     relocationsCheck wordsOf factsOf examinedOf
 file-cases-hold = record {

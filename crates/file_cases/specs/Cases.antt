@@ -89,7 +89,8 @@ tableCases =
     ∷ refused (with (with sample (dynamic 2 + 8) 8 640) (dynamic 5 + 8) 8 640) 7 0
     ∷ []
 
--- descriptors: cut short; after its PT_LOAD; before it; across its end; cut short after one that is outside
+-- descriptors: cut short; after its PT_LOAD; before it; across its end; cut short after one that is outside. In a longer form: the first
+-- number padded; the second; a second number of 6, where 7 is not one; padded and outside; outside before one that is padded; padded and cut short
 abbrev pub descriptorCases : List Case
 descriptorCases =
     refused (with sample (descriptor 3) 1 0x08) 8 2
@@ -97,6 +98,13 @@ descriptorCases =
     ∷ refused (with sample (descriptor 0) 1 0xc1) 9 0
     ∷ refused (with sample (descriptor 3) 1 0x0a) 9 2
     ∷ refused (with (with sample (descriptor 0) 1 0xc1) (descriptor 3) 1 0x08) 9 0
+    ∷ refused (with sample (descriptor 1) 3 0x010082) 16 0
+    ∷ refused (with sample (descriptor 0) 3 0x008700) 16 0
+    ∷ refused (with sample (descriptor 2) 2 0x0600) 16 1
+    ∷ refused (with sample (descriptor 2) 2 0x0700) 9 1
+    ∷ refused (with sample (descriptor 2) 2 0x00a1) 16 1
+    ∷ refused (with (with sample (descriptor 0) 1 0xc1) (descriptor 2) 2 0x0081) 9 0
+    ∷ refused (with sample (descriptor 2) 2 0x0080) 8 1
     ∷ []
 
 -- kinds and symbols: another kind; RELATIVE with a symbol; ABS64 and GLOB_DAT without; no symbol table; types 6 and 10; sections from
@@ -127,8 +135,8 @@ placeCases =
     ∷ refused (with (with sample (entry 0) 8 660) (entry 1 + 8) 4 1026) 11 0
     ∷ []
 
--- the order, where two checks refuse: 1 before 2, 3 before 4, 4 before 5, 5 before 6, 6 before 7, 7 before 8, 8 and 9 before 10; that of 2 and
--- 3, of both tables of 7, and of 10 and 11 stands above
+-- the order, where two checks refuse: 1 before 2, 3 before 4, 4 before 5, 5 before 6, 6 before 7, 7 before 8, 8, 16 and 9 before 10; that of 2
+-- and 3, of both tables of 7, of 8, 16 and 9, and of 10 and 11 stands above
 abbrev pub orderCases : List Case
 orderCases =
     refused (take 63 (with sample 0 1 0x7e)) 1 0
@@ -138,6 +146,7 @@ orderCases =
     ∷ refused (with (with sample (dynamic 1 + 8) 8 25) (dynamic 2 + 8) 8 520) 6 1
     ∷ refused (with (with sample (dynamic 2 + 8) 8 520) (descriptor 3) 1 0x08) 7 0
     ∷ refused (with (with sample (descriptor 3) 1 0x08) (entry 0 + 8) 4 1026) 8 2
+    ∷ refused (with (with sample (descriptor 2) 2 0x0600) (entry 0 + 8) 4 1026) 16 1
     ∷ refused (with (with sample (descriptor 3) 1 0x11) (entry 0 + 8) 4 1026) 9 2
     ∷ []
 
