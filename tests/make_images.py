@@ -2,7 +2,7 @@
 """make_images.py DIR: writes images NAME.img with what examine_image must write of each, NAME.out, into DIR.
 make_images.py --sheet: writes the bench sheet's image to standard output.
 
-What is expected stands beside each image, by document 01 and requests 3 and 5; nothing here reads an image.
+What is expected stands beside each image, by document 01 and requests 3, 5 and 6; nothing here reads an image.
 The program reads 65,536 bytes at most, so the limits of entries and globals are out of its reach.
 """
 import os
@@ -111,7 +111,9 @@ def cases():
     yield "no_bytes_anywhere", image(entries=[(7, 2**63), (8, 0), (9, 24), (GLOBALS, 2**63), (GLOBALSSZ, 0), (0, 0)]), []
     yield "no_known_tag", image(entries=[(1, 5), (1, 6), (0, 0), (7, 7)]), []
     yield "modes", image(extra=[(MODE, 1), (HEAP, 0), (STACK, 1)]), SHEET_GLOBALS
-    yield "padded", image(descriptors=bytes.fromhex("8100 0000 0007 07")), [(0, 1), (16, 1), (32, 8), (160, 7)]
+    # Numbers of one, two and three bytes, each as short as can be, around the limit of a second number.
+    yield "shortest", image(descriptors=bytes.fromhex("01 0007 07 8101 8207 808001 8001"), memory=0x100000), [
+        (0, 1), (16, 8), (144, 7), (512, 1), (2320, 2), (35120, 129)]
     yield "longest", image(length=65536), SHEET_GLOBALS
     # As many as an image has room for.
     for name, count in ("many", 1025), ("most", 65536 - RELA):
@@ -224,6 +226,32 @@ def cases():
     halves = lambda n, d: [load(0, n, 0x1000), load(0x1000, 0, 0x1000), dynamic(d)]
     yield "global_over_two", image(descriptors=bytes.fromhex("f10f 02"), headers=halves), (9, 1)
     yield "nine_then_eight", image(descriptors=bytes.fromhex("00 ff07 00")), (9, 0)
+    # 16: in the same walk, when a descriptor has been read and before its range
+    for name, descriptors, says in (
+        ("first", "8100", (16, 0)),
+        ("second", "01 00 8700", (16, 1)),
+        ("both", "01 01 8000 8700 01", (16, 2)),
+        ("three", "01 81 80 00", (16, 1)),
+        ("to_ten", "01 0007 0007 81 8080808080808080 00", (16, 3)),
+        ("second_to_ten", "00 87 8080808080808080 00", (16, 0)),
+        ("same_globals", "01 01 0007 8700", (16, 3)),
+        ("far", "01 ffffffffffffffffff00", (16, 1)),
+        ("outside", "81a000 01", (16, 0)),
+        ("and_cut", "01 8000", (8, 1)),
+        ("and_second_cut", "8000 80", (8, 0)),
+        ("and_tenth", "01 8000 ffffffffffffffffff02", (8, 1)),
+        ("then_outside", "8100 81ff7f", (16, 0)),
+        ("after_outside", "81ff7f 8100", (9, 0)),
+        ("before_relocations", "8100", (16, 0)),
+    ):
+        bad = [rela(1, 1)] if name == "before_relocations" else []
+        yield "padded_" + name, image(descriptors=bytes.fromhex(descriptors), relocations=bad), says
+    for second in range(7):
+        yield "second_%d" % second, image(descriptors=bytes([1, 0, second])), (16, 1)
+    yield "second_7", image(descriptors=b"\x01\x00\x07"), [(0, 1), (16, 8)]
+    yield "second_6_outside", image(descriptors=bytes.fromhex("80 80 01 06")), (16, 0)
+    yield "second_6_far", image(descriptors=bytes.fromhex("80 80 80 80 80 80 80 01 06")), (16, 0)
+    yield "packed_before_padded", image(packed=[1], descriptors=bytes.fromhex("8100")), (15, 0)
     # 10 and 11: one walk over the relocations
     ok = rela(PLACE, RELATIVE)
     for name, bad in (

@@ -1,6 +1,6 @@
 #!/usr/bin/env python3
 """Loads real modules and compares answer, memory and tag plane with what readelf says of them; reads their descriptor
-tables and writes them again, and compares with the linker's own bytes.
+tables and writes them again, and compares with the linker's own bytes. These must be the shortest, as encoded here.
 
     check.py READELF SCRATCH FOLDER PROGRAMS -- EMULATOR...
 
@@ -155,6 +155,23 @@ def uleb(byte, rest):
     return value
 
 
+def encoded(value, least=1):
+    """A number in ULEB128: as short as can be, or padded to at least so many bytes."""
+    out = []
+    while value > 127 or len(out) < least - 1:
+        out.append(value % 128 + 128)
+        value //= 128
+    return bytes(out + [value])
+
+
+def descriptors(found):
+    """The shortest descriptor of each global: its distance from the end before and its size, in granules."""
+    last = 0
+    for address, size in found:
+        distance, granules, last = (address - last) // 16, size // 16, address + size
+        yield encoded(distance * 8 + granules) if granules < 8 else encoded(distance * 8) + encoded(granules - 1)
+
+
 def expected(m, bias, length, choices):
     """Memory and plane after a load."""
     plane = bytearray(length // 16)
@@ -220,10 +237,11 @@ class Writer:
 
 
 def check_table(m, writer):
-    """The table read and written again: the linker's own bytes."""
+    """The table read and written again: the linker's own bytes, which are the shortest."""
     table, count, lent = m.table(), len(m.globals()), b"\xa5"
     if not table:
         return
+    expect(table == b"".join(descriptors(m.globals())), f"{m.name}: its table is not in shortest form")
     for room in (len(table), len(table) + 1, len(table) + 77, 14 * count):
         what = f"{m.name}, its table into {room} bytes"
         answer, read, buffer = writer.write(m, room)
@@ -435,6 +453,46 @@ def check_packed_edits(m, loader, scratch):
         loader.refusal(f"{m.name}, {what}", path, BIASES[0], 0x80000, 0x8000, choices, number, position, examined)
 
 
+def check_long_forms(m, loader, scratch):
+    """The packed module with another table of the same globals, in its own data: taken in shortest form alone. The last file
+    that is refused stays."""
+    entry = lambda tag: first(m.dynamic, lambda d: d[0] == tag)
+    dynamic = next(h for h in m.headers if h[0] == "DYNAMIC")[1]
+    space, found = m.symtab["space"], m.globals()
+    path, each = os.path.join(scratch, "long_form.so"), list(descriptors(found))
+    choices = choose(len(found))
+
+    def put(table):
+        """The file with this table."""
+        expect(len(table) <= space[1], f"{m.name}: no room for a table of {len(table)} bytes")
+        data = bytearray(m.bytes)
+        for at, part in [
+            (m.offset(space[0]), table),
+            (dynamic + 16 * entry(GLOBALS) + 8, space[0].to_bytes(8, "little")),
+            (dynamic + 16 * entry(GLOBALSSZ) + 8, len(table).to_bytes(8, "little")),
+        ]:
+            data[at:at + len(part)] = part
+        with open(path, "wb") as out:
+            out.write(data)
+
+    put(b"".join(each))
+    answer, examine, _, _, plane = loader.load(path, BIASES[0], 0x80000, 0x8000, choices)
+    expect(answer == examine == len(found) * 256, f"{m.name}, its table elsewhere: answer {answer & 255} at {answer >> 8}")
+    expect(plane == expected(m, BIASES[0], 0x80000, choices)[1], f"{m.name}, its table elsewhere: the tag plane differs")
+    small, large = [first(found, test) for test in (lambda g: g[1] < 128, lambda g: g[1] >= 128)]
+    for k in sorted({0, small, large, len(found) // 2, len(found) - 1}, reverse=True):
+        distance, granules = (found[k][0] - (sum(found[k - 1]) if k else 0)) // 16, found[k][1] // 16
+        number = distance * 8 + (granules if granules < 8 else 0)
+        second = b"" if granules < 8 else encoded(granules - 1)
+        forms = [encoded(number, length) + second for length in range(len(encoded(number)) + 1, 11)]
+        forms += [encoded(distance * 8) + encoded(granules - 1, length) for length in (1, 2, 3, 10)]
+        for form in forms:
+            if form == each[k]:
+                continue
+            put(b"".join(each[:k] + [form] + each[k + 1:]))
+            loader.refusal(f"{m.name}, descriptor {k} as {form.hex()}", path, BIASES[0], 0x80000, 0x8000, choices, 16, k)
+
+
 # Refused modules: number, and where to find the position in readelf's lists.
 REFUSED = {
     "refused_long": (1, lambda m: 0),
@@ -491,11 +549,12 @@ def main():
     loader = Loader(emulator + [os.path.join(programs, "load_file")], scratch)
     writer = Writer(emulator + [os.path.join(programs, "write_file")])
     modules = [Module(readelf, os.path.join(at, name)) for at, _, names in sorted(os.walk(folder)) for name in sorted(names) if name.endswith(".so")]
-    seen, units, tables = set(), set(), 0
+    seen, units, tables, described = set(), set(), 0, 0
     for m in modules:
         name = m.name.split("/")[1]
         seen.add(name)
         tables += bool(m.table())
+        described += len(m.globals())
         check_table(m, writer)
         if name in REFUSED:
             number, position = REFUSED[name]
@@ -517,6 +576,7 @@ def main():
             check_packed_end(m, loader)
         if m.name == "4096/packed":
             check_packed_edits(m, loader, scratch)
+            check_long_forms(m, loader, scratch)
         if name == "nine_hour":
             check_nine_hour(m, loader)
         if m.name == "4096/nine_hour":
@@ -524,7 +584,7 @@ def main():
     expect(seen == set(REFUSED) | set(MEANT), f"modules missing: {sorted((set(REFUSED) | set(MEANT)) ^ seen)}")
     expect(tables > 0, "no module has a table")
     expect(units == {4096, 16384, 65536, 0x20000}, f"largest aligns: {sorted(units)}")
-    print(f"{len(modules)} modules, {tables} tables written again, {checks} checks")
+    print(f"{len(modules)} modules, {tables} tables of {described} descriptors, all in shortest form, written again, {checks} checks")
 
 
 main()

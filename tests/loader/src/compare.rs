@@ -147,7 +147,7 @@ pub struct Settings {
 /// Counts of a run, by refusal number; 0 is taken.
 #[derive(Default)]
 pub struct Counts {
-    pub answers: [u64; 16],
+    pub answers: [u64; 17],
     pub write_answers: [u64; 7],
     pub calls: u64,
     pub steps: u64,
@@ -234,9 +234,12 @@ pub fn run(settings: &Settings) -> Result<Counts, String> {
             run.call(&format!("vector {i} of {}, {}", vectors::LARGE, v.name), &v.call);
         }
     });
-    for (i, v) in vectors::steps().iter().enumerate() {
-        if !run.full() {
-            run.step(&format!("descriptor vector {i}"), &v.table, v.position, v.last_end, v.index);
+    for set in vectors::STEPS {
+        for (i, v) in vectors::steps(set).iter().enumerate() {
+            if !run.full() {
+                let name = format!("vector {i} of {set}");
+                run.step(&name, &v.table, v.position, v.last_end, v.index);
+            }
         }
     }
     for (i, v) in vectors::writes().iter().enumerate() {

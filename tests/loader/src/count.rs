@@ -5,7 +5,8 @@
 
 use crate::answers::{Call, Listing, Loader};
 use crate::bench::{assemble, call, dense, listing, Tables};
-use crate::generate::module::uleb;
+use crate::generate::module::descriptor;
+use crate::{LARGEST, PAGE};
 
 const SIZE: usize = 256 << 10;
 /// Tables, places and globals lie behind the pages that PT_LOADs of their own may take.
@@ -18,7 +19,7 @@ const STEP: usize = 80;
 
 #[derive(Clone, Copy, PartialEq, Eq)]
 enum Form {
-    /// One number in so many bytes; padded in an image, needed in a list.
+    /// One number of so many bytes.
     Bytes(usize),
     /// The size in a second number; a byte each.
     TwoNumbers,
@@ -56,21 +57,22 @@ const EMPTY: Shape = Shape {
     bitmaps: 0,
 };
 
-fn descriptor(form: Form, distance: u64) -> Vec<u8> {
+/// Granules before a global, as few as give the form, and of it.
+fn global(form: Form) -> (u64, u64) {
     match form {
-        Form::Bytes(bytes) => uleb(distance << 3 | 3, bytes),
-        Form::TwoNumbers => [uleb(distance << 3, 1), uleb(2, 1)].concat(),
+        Form::Bytes(1) => (2, 3),
+        Form::Bytes(bytes) => (16 << (7 * (bytes - 2)), 3),
+        Form::TwoNumbers => (2, 9),
     }
 }
 
 fn image(shape: Shape) -> Call {
     let mut file = vec![0; SIZE];
+    let (distance, granules) = global(shape.form);
     let mut descriptors = Vec::new();
     for i in 0..shape.globals {
-        descriptors.extend(match i {
-            0 => descriptor(Form::Bytes(3), GLOBALS as u64 / 16),
-            _ => descriptor(shape.form, 2),
-        });
+        let before = if i == 0 { GLOBALS as u64 / 16 } else { distance };
+        descriptors.extend(descriptor(before, granules));
     }
     let target = |i: usize| (GLOBALS + i * STEP) as u64;
     let symbols = (0..SYMBOLS).map(|i| [0x11 << 32 | 1 << 48, target(i), 8]).collect();
@@ -90,16 +92,17 @@ fn image(shape: Shape) -> Call {
     let packed = [dense(PLACES as u64, shape.packed), vec![1; shape.bitmaps]].concat();
     let tables = Tables { symbols, relocations, packed, descriptors };
     assemble(&mut file, shape.passed, TABLES, &tables);
+    if shape.form != Form::Bytes(1) {
+        // Memory behind the file, where the globals have room.
+        let size = LARGEST - shape.passed as u64 * PAGE;
+        file[64 + 56 * shape.passed + 40..][..8].copy_from_slice(&size.to_le_bytes());
+    }
     call(file, shape.globals)
 }
 
 /// The list of as many globals of the shape's form; an image has nothing more for it.
 fn list(shape: Shape) -> Listing {
-    let global = match shape.form {
-        Form::Bytes(bytes) => (2 << (7 * (bytes - 1)), 3),
-        Form::TwoNumbers => (2, 9),
-    };
-    listing(std::iter::repeat_n(global, shape.globals))
+    listing(std::iter::repeat_n(global(shape.form), shape.globals))
 }
 
 #[derive(Clone, Copy, PartialEq, Eq)]
@@ -138,6 +141,8 @@ fn beyond(small: Shape, large: Shape) -> Terms {
 /// Numbers of descriptors; a table at its limit would end another way.
 const FEW: usize = 256;
 const MANY: usize = 768;
+/// Of three bytes: the largest memory has room for little more.
+const MANY_LONG: usize = 480;
 /// PT_LOADs that are passed over.
 const PASSED: usize = 8;
 
@@ -147,7 +152,8 @@ fn rows() -> Vec<Row> {
     let mut row = |name: &str, items: usize, terms: Terms| {
         rows.push(Row { name: name.to_owned(), terms, items: items as i64 });
     };
-    let globals = |form| [FEW, MANY].map(|globals| Shape { form, globals, ..EMPTY });
+    let many = |form| if form == Form::Bytes(3) { MANY_LONG } else { MANY };
+    let globals = |form| [FEW, many(form)].map(|globals| Shape { form, globals, ..EMPTY });
     let forms = [
         ("a descriptor of one byte", Form::Bytes(1)),
         ("a descriptor of two bytes", Form::Bytes(2)),
@@ -156,14 +162,14 @@ fn rows() -> Vec<Row> {
     ];
     for (name, form) in forms {
         let [small, large] = globals(form);
-        row(&format!("{name}: examine"), MANY - FEW, more(Examine, small, large));
+        row(&format!("{name}: examine"), many(form) - FEW, more(Examine, small, large));
     }
     let [small, large] = globals(Form::Bytes(1));
     row("a descriptor of one byte: the load beyond examine", MANY - FEW, beyond(small, large));
 
     for (name, form) in forms {
         let [small, large] = globals(form);
-        row(&format!("{name}: written"), MANY - FEW, more(Write, small, large));
+        row(&format!("{name}: written"), many(form) - FEW, more(Write, small, large));
     }
     let name = "a descriptor of one byte: written, no byte to spare";
     row(name, MANY - FEW, more(WriteExact, small, large));
@@ -289,8 +295,9 @@ pub fn table(counts: &[i64]) -> Result<String, String> {
     }
     let mut text = format!(
         "Instructions an item, from two tables that differ in length; memset, memcpy and memmove are left out.\n\
-         Where no tables are named they have {FEW} and {MANY} descriptors, or 512 and 1024 relocations or\n\
-         packed places. One PT_LOAD holds all, and {PASSED} more come before it where some are passed over.\n\n\
+         Where no tables are named they have {FEW} and {MANY} descriptors ({MANY_LONG} of three bytes), or 512 and\n\
+         1024 relocations or packed places. One PT_LOAD holds all, and {PASSED} more come before it where some are\n\
+         passed over.\n\n\
          | Item | archive | Rust |\n|---|---|---|\n"
     );
     let mut pairs = counts.chunks_exact(2);

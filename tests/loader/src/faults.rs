@@ -4,7 +4,7 @@
 use crate::answers::{Loader, Under};
 use crate::headers::{Lookup, Segment, Segments, PT_DYNAMIC, PT_LOAD};
 use crate::relocations::ENTRY;
-use crate::rules::Rules;
+use crate::rules::{After, Rules};
 use crate::{load_untagged_by, Refusal, Untagged, ADDRESS_END, PAGE};
 
 pub struct Fault {
@@ -18,9 +18,9 @@ pub struct UntaggedFault {
     pub load: fn(&[u8], u64, u64) -> Result<Untagged, Refusal>,
 }
 
-/// The fault of a name, among those of loads and writes.
+/// The fault of a name, among those of loads, steps and writes.
 pub fn named(name: &str) -> Option<&'static Fault> {
-    FAULTS.iter().chain(WRITER_FAULTS).find(|fault| fault.name == name)
+    FAULTS.iter().chain(STEP_FAULTS).chain(WRITER_FAULTS).find(|fault| fault.name == name)
 }
 
 /// A bias by 4,096 and one align.
@@ -284,8 +284,76 @@ faults! {
             byte == 0
         }
     }
-    NoPadding "padded numbers are refused" {
-        const PADDED: bool = false;
+    LongAsEight "8 in place of 16" {
+        const LONG: u8 = 8;
+    }
+    NoLong "no 16 in the walk" {
+        const WALK_LONG: bool = false;
+    }
+    PaddedFirst "a padded first number is taken" {
+        fn long_first(_: bool) -> bool {
+            false
+        }
+    }
+    PaddedSecond "a padded second number is taken" {
+        fn long_second(_: bool, second: u64) -> bool {
+            second < 7
+        }
+    }
+    PaddedByOne "padding is seen in numbers of two bytes alone" {
+        fn padded(bytes: usize, last: u8) -> bool {
+            bytes == 2 && last == 0
+        }
+    }
+    PaddedToNine "padding to ten bytes is not seen" {
+        fn padded(bytes: usize, last: u8) -> bool {
+            (2..10).contains(&bytes) && last == 0
+        }
+    }
+    PaddedZero "a byte 0 alone counts as padding" {
+        fn padded(_: usize, last: u8) -> bool {
+            last == 0
+        }
+    }
+    SecondAny "any second number is taken" {
+        fn long_second(padded: bool, _: u64) -> bool {
+            padded
+        }
+    }
+    SecondSix "a second number of 6 is taken" {
+        fn long_second(padded: bool, second: u64) -> bool {
+            padded || second < 6
+        }
+    }
+    SecondSeven "a second number of 7 is refused" {
+        fn long_second(padded: bool, second: u64) -> bool {
+            padded || second <= 7
+        }
+    }
+    LongBeforeCut "16 of a first number before 8 of the second" {
+        const LONG_EARLY: bool = true;
+    }
+    LongAfterEnd "9 of an end above 2^48 before 16" {
+        const LONG_AFTER: After = After::End;
+    }
+    LongAfterLoads "9 before 16 at each descriptor" {
+        const LONG_AFTER: After = After::Loads;
+    }
+    LongLast "16 after all of 8 and 9" {
+        const LONG_AFTER: After = After::All;
+    }
+    LongAtZero "16 always at 0" {
+        fn long_at(_: u64) -> u64 {
+            0
+        }
+    }
+    LongAtNext "16 at the descriptor after" {
+        fn long_at(index: u64) -> u64 {
+            index + 1
+        }
+    }
+    LeftRead "the descriptor after the most is read" {
+        const READS_LEFT: bool = true;
     }
     SecondWraps "the size wraps at 2^64" {
         fn second_size(second: u64) -> u64 {
@@ -786,6 +854,22 @@ faults! {
     }
     PackedFromMemory "packed words read from relocated memory" {
         const PACKED_FROM_MEMORY: bool = true;
+    }
+}
+
+// Steps of the descriptor reader alone tell these apart.
+faults! {
+    STEP_FAULTS:
+    AloneNoLong "no 16 in the reader alone" {
+        const ALONE_LONG: bool = false;
+    }
+    AloneLongFirst "16 before 9 of the last end handed in" {
+        const ALONE_LONG_FIRST: bool = true;
+    }
+    AloneLongAtZero "16 of the reader alone at 0" {
+        fn alone_at(_: u64) -> u64 {
+            0
+        }
     }
 }
 

@@ -3,6 +3,7 @@
 
 pub mod answers;
 pub mod bench;
+pub mod by_words;
 mod bytes;
 pub mod compare;
 pub mod count;
@@ -74,12 +75,12 @@ pub struct Facts {
     pub words: u64,
 }
 
-/// Checks 1 to 11 and 15 of a file, and its facts.
+/// Checks 1 to 11, 15 and 16 of a file, and its facts.
 pub fn examine(file: &[u8]) -> Result<Facts, Refusal> {
     examine_by::<Right>(file)
 }
 
-/// Checks 1 to 15, then places, tags and relocates. A refusal leaves both buffers as they were.
+/// Checks 1 to 16, then places, tags and relocates. A refusal leaves both buffers as they were.
 pub fn load(
     file: &[u8],
     bias: u64,

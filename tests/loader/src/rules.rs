@@ -5,6 +5,18 @@ use crate::headers::{Lookup, Segment, Segments, PT_LOAD};
 use crate::relocations::ENTRY;
 use crate::{ADDRESS_END, GRANULE, LARGEST, MOST, PAGE};
 
+/// What of a descriptor comes before 16.
+#[derive(PartialEq, Eq)]
+pub enum After {
+    Reading,
+    /// 9 of an end above 2^48.
+    End,
+    /// 9 of a global outside every PT_LOAD too.
+    Loads,
+    /// 8 and 9 of all descriptors.
+    All,
+}
+
 pub trait Rules {
     /// 1: lengths that a file may have.
     fn file_length(length: u64) -> bool {
@@ -130,13 +142,49 @@ pub trait Rules {
         descriptors
     }
 
+    /// 9: the descriptor that begins with such bytes is not read.
+    const READS_LEFT: bool = false;
+
     /// The tenth byte of a number.
     fn tenth(byte: u8) -> bool {
         byte <= 1
     }
 
-    /// A number may be padded with zero bits.
-    const PADDED: bool = true;
+    /// A number is padded where it has more than one byte and the last is 0.
+    fn padded(bytes: usize, last: u8) -> bool {
+        bytes > 1 && last == 0
+    }
+
+    /// 16: a first number that is padded.
+    fn long_first(padded: bool) -> bool {
+        padded
+    }
+
+    /// 16: a second one that is padded, or needless: sizes below 8 go into the first.
+    fn long_second(padded: bool, second: u64) -> bool {
+        padded || second < 7
+    }
+
+    /// 16: its number.
+    const LONG: u8 = 16;
+
+    /// 16: its position.
+    fn long_at(index: u64) -> u64 {
+        index
+    }
+
+    /// 16 comes after 8 of both numbers of a descriptor, and before 9.
+    const LONG_EARLY: bool = false;
+    const LONG_AFTER: After = After::Reading;
+
+    /// 16 is in the walk, and in the reader alone.
+    const WALK_LONG: bool = true;
+    const ALONE_LONG: bool = true;
+    /// There it comes after the tests of the last end that was handed in, and has the index handed in.
+    const ALONE_LONG_FIRST: bool = false;
+    fn alone_at(index: u64) -> u64 {
+        index
+    }
 
     /// The granules of a global whose first number has three low bits of 0.
     fn second_size(second: u64) -> u64 {
@@ -153,7 +201,7 @@ pub trait Rules {
         segments.find(|s| s.address <= start && end <= s.end()).is_some()
     }
 
-    /// 8 and 9 come from one walk.
+    /// 8, 16 and 9 come from one walk.
     const RANGES_LAST: bool = false;
 
     /// 10 before 11 at each entry.

@@ -99,12 +99,14 @@ impl<'a> Records<'a> {
 }
 
 /// The sets of loads.
-pub const LOADS: [&str; 5] =
-    ["load", "level-02/load", "level-03/load", "level-04/load", "level-05/load"];
+pub const LOADS: [&str; 6] =
+    ["load", "level-02/load", "level-03/load", "level-04/load", "level-05/load", "level-06/load"];
 /// The set of large loads, whose records are packed.
 pub const LARGE: &str = "level-05/large";
 /// The folders of those that the untagged loader has answers for.
-pub const UNTAGGED: [&str; 4] = ["level-02", "level-03", "level-04", "level-05"];
+pub const UNTAGGED: [&str; 5] = ["level-02", "level-03", "level-04", "level-05", "level-06"];
+/// The sets of descriptor steps.
+pub const STEPS: [&str; 2] = ["descriptors", "level-06/descriptors"];
 
 pub fn loads(set: &str) -> Vec<LoadVector> {
     let bytes = read(&format!("{set}.cases"));
@@ -138,10 +140,10 @@ pub fn untagged_loads(folder: &str) -> Vec<LoadVector> {
     loads.into_iter().zip(answers).map(|(load, answer)| LoadVector { answer, ..load }).collect()
 }
 
-pub fn steps() -> Vec<StepVector> {
-    let bytes = read("descriptors.cases");
+pub fn steps(set: &str) -> Vec<StepVector> {
+    let bytes = read(&format!("{set}.cases"));
     let mut records = Records(&bytes);
-    let vectors = lines("descriptors.answers")
+    let vectors = lines(&format!("{set}.answers"))
         .into_iter()
         .map(|answer| StepVector {
             table: records.counted(),

@@ -1,4 +1,4 @@
-//! The bench sheet of document 01 with what requests 2 and 5 say, and its table written.
+//! The bench sheet of document 01 with what requests 2, 5 and 6 say, and its table written.
 
 use loader::answers::{packed_facts, Call};
 use loader::{examine, load, load_untagged, step, write_table};
@@ -69,15 +69,20 @@ fn descriptors() {
     assert_eq!(globals(&TABLE), Ok(vec![(0x1000, 2), (0x1040, 8), (0x10c0, 1)]));
     assert_eq!(globals(&[7]), Ok(vec![(0, 7)]));
     assert_eq!(globals(&[0, 7]), Ok(vec![(0, 8)]));
-    assert_eq!(globals(&[0, 0]), Ok(vec![(0, 1)]));
+    assert_eq!(globals(&[0, 0]), refused(16, 0));
     assert_eq!(globals(&[0]), refused(8, 0));
-    assert_eq!(globals(&[0x81, 0]), Ok(vec![(0, 1)]));
+    assert_eq!(globals(&[0x81, 0]), refused(16, 0));
+    assert_eq!(globals(&[1]), Ok(vec![(0, 1)]));
     let number = |tenth| [&[0xff; 9][..], &[tenth]].concat();
     assert_eq!(globals(&number(2)), refused(8, 0));
     // 2^64 - 1 is read, and lies far outside.
     assert_eq!(globals(&number(1)), refused(9, 0));
     assert_eq!(examine(&module(&number(2), &[], 0)), refused(8, 0));
     assert_eq!(examine(&module(&number(1), &[], 0)), refused(9, 0));
+    // In a module that has the range.
+    assert_eq!(examine(&module(&[0x81, 0], &[], 0)), refused(16, 0));
+    assert_eq!(examine(&module(&[0, 0], &[], 0)), refused(16, 0));
+    assert_eq!(examine(&module(&[1], &[], 0)).map(|facts| facts.globals), Ok(1));
 }
 
 /// The table of a list of (address, bytes), in a buffer of so many bytes.

@@ -15,7 +15,7 @@ fn run(program: &str, words: &[&str]) -> (Option<i32>, String) {
 fn equal_loaders_are_equal() {
     let (code, text) = run(COMPARE, &["--against", "self", "--cases", "2000"]);
     assert_eq!(code, Some(0), "{text}");
-    assert!(text.contains("3716 calls, 2400 descriptor steps, 2346 table writes"), "{text}");
+    assert!(text.contains("3985 calls, 2703 descriptor steps, 2346 table writes"), "{text}");
     assert!(text.contains("different: 0"), "{text}");
 }
 

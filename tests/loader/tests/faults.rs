@@ -1,7 +1,7 @@
 //! The generated cases tell every seeded fault from the right loader.
 
 use loader::answers::{Call, Loader, RIGHT};
-use loader::faults::{FAULTS, UNTAGGED_FAULTS, WRITER_FAULTS};
+use loader::faults::{FAULTS, STEP_FAULTS, UNTAGGED_FAULTS, WRITER_FAULTS};
 use loader::generate::list::write_case;
 use loader::generate::{case, count, step_case, Case, SEED};
 use loader::load_untagged;
@@ -95,11 +95,24 @@ fn steps_catch_number_faults() {
         "the second number is the size",
         "any tenth byte",
         "the tenth byte must be 0",
-        "padded numbers are refused",
+        "8 in place of 16",
+        "a padded first number is taken",
+        "a padded second number is taken",
+        "padding is seen in numbers of two bytes alone",
+        "padding to ten bytes is not seen",
+        "a byte 0 alone counts as padding",
+        "any second number is taken",
+        "a second number of 6 is taken",
+        "a second number of 7 is refused",
+        "16 of a first number before 8 of the second",
+        "9 of an end above 2^48 before 16",
+        "16 at the descriptor after",
         "the size wraps at 2^64",
         "the distance wraps at 2^64",
     ];
-    for fault in FAULTS.iter().filter(|f| names.contains(&f.name)) {
+    let of_loads: Vec<_> = FAULTS.iter().filter(|f| names.contains(&f.name)).collect();
+    assert_eq!(of_loads.len(), names.len());
+    for fault in of_loads.into_iter().chain(STEP_FAULTS) {
         let differs = |i: &u64| {
             let c = step_case(SEED, *i);
             let by = |l: &dyn Loader| l.step(&c.table, c.position, c.last_end, c.index);

@@ -1,12 +1,13 @@
 //! The Rust loader gives the answer that each generated case was made for.
 
 use loader::answers::{Call, Listing, Loader, RIGHT};
+use loader::by_words::{Form, Number};
 use loader::compare::{difference, reads_back};
 use loader::generate::damage::{Expected, DAMAGES};
 use loader::generate::list::{write_case, CHANGES};
 use loader::generate::module::uleb;
 use loader::generate::{cases, count, step_case, SEED};
-use loader::{examine, load_untagged, step, write_table, Step};
+use loader::{examine, load_untagged, step, Step};
 use std::collections::BTreeSet;
 
 /// The untagged loader answers as the load does where tags, descriptors, plane and choices have no say.
@@ -84,12 +85,136 @@ impl Aligns {
     }
 }
 
+/// What of a file its descriptors are judged by, where it passes the checks before them.
+struct Described<'a> {
+    table: &'a [u8],
+    /// Where each PT_LOAD starts and ends.
+    loads: Vec<(u64, u64)>,
+}
+
+fn described(file: &[u8]) -> Option<Described<'_>> {
+    let word = |at: usize| u64::from_le_bytes(file[at..at + 8].try_into().unwrap());
+    let first = word(32) as usize;
+    let headers = |kind: u32| {
+        let all = (0..usize::from(file[56])).map(move |i| first + 56 * i);
+        all.filter(move |&at| word(at) as u32 == kind)
+    };
+    let found = |address: u64, size: u64| {
+        let backs = |at: &usize| {
+            let start = word(at + 16);
+            start <= address && address + size <= start + word(at + 32)
+        };
+        let load = headers(1).find(backs).unwrap();
+        (word(load + 8) + address - word(load + 16)) as usize
+    };
+    let dynamic = headers(2).next().unwrap();
+    let at = found(word(dynamic + 16), word(dynamic + 32));
+    let entries = || (at..).step_by(16).map(|at| (word(at), word(at + 8))).take_while(|e| e.0 != 0);
+    let value = |tag| entries().find(|e| e.0 == tag).map(|e| e.1);
+    let (address, size) = (value(0x7000_000d)?, value(0x7000_000f).filter(|&size| size > 0)?);
+    let loads = headers(1).map(|at| (word(at + 16), word(at + 16) + word(at + 40))).collect();
+    Some(Described { table: &file[found(address, size)..][..size as usize], loads })
+}
+
+/// The descriptors that are refused by 16, and those beside the limit, by their form.
+#[derive(Debug, Default)]
+struct Forms {
+    /// Bytes of padded first numbers and of padded second ones, and how often both are.
+    first: BTreeSet<usize>,
+    second: BTreeSet<usize>,
+    both: u64,
+    /// Second numbers below 7 that are not padded.
+    small: BTreeSet<u128>,
+    /// At the first descriptor, in the middle, and at the last of some.
+    places: [u64; 3],
+    /// In range, outside every PT_LOAD, and with an end above 2^48.
+    in_range: u64,
+    outside: u64,
+    above: u64,
+    /// Refused by 8: a padded first number, and a second that is cut or too long.
+    bad_second: u64,
+    /// Taken: second numbers of 7, and sizes of 7.
+    seven: u64,
+    size_seven: u64,
+}
+
+impl Forms {
+    fn long(&mut self, form: &Form, last_end: u64, loads: &[(u64, u64)]) {
+        assert!(form.long());
+        let second_padded = form.second.as_ref().is_some_and(Number::padded);
+        if form.first.padded() {
+            self.first.insert(form.first.bytes);
+        }
+        if let Some(second) = form.second.as_ref() {
+            if second_padded {
+                self.second.insert(second.bytes);
+            } else if second.value < 7 {
+                self.small.insert(second.value);
+            }
+        }
+        self.both += u64::from(form.first.padded() && second_padded);
+        let start = u128::from(last_end) + 16 * form.distance();
+        let end = start + 16 * form.granules();
+        let holds = |&(from, to): &(u64, u64)| u128::from(from) <= start && end <= to.into();
+        if end > 1 << 48 {
+            self.above += 1;
+        } else if loads.iter().any(holds) {
+            self.in_range += 1;
+        } else {
+            self.outside += 1;
+        }
+    }
+
+    /// The first number of a descriptor that is refused by 8.
+    fn bad(&mut self, bytes: &[u8]) {
+        let first = Number::read(bytes).filter(|first| first.value % 8 == 0 && first.padded());
+        self.bad_second += u64::from(first.is_some());
+    }
+
+    fn taken(&mut self, form: &Form) {
+        self.seven += u64::from(form.second.as_ref().is_some_and(|second| second.value == 7));
+        self.size_seven += u64::from(form.granules() == 7);
+    }
+
+    /// The descriptors of a module up to the one that is refused.
+    fn count(&mut self, file: &[u8], (number, position): (u8, u64)) {
+        let Some(Described { table, loads }) = described(file) else { return };
+        let (mut at, mut last_end) = (0, 0);
+        for _ in 0..if number == 0 { u64::MAX } else { position } {
+            if at == table.len() {
+                return;
+            }
+            let form = Form::read(&table[at..]).unwrap();
+            at += form.bytes();
+            last_end += 16 * (form.distance() + form.granules()) as u64;
+            self.taken(&form);
+        }
+        if number == 8 {
+            return self.bad(&table[at..]);
+        }
+        let form = Form::read(&table[at..]).unwrap();
+        self.long(&form, last_end, &loads);
+        let last = at + form.bytes() == table.len();
+        self.places[if last { 2 } else { usize::from(position > 0) }] += u64::from(!last || at > 0);
+    }
+
+    /// Every way is reached.
+    fn enough(&self) -> bool {
+        self.first.iter().copied().eq(2..=10)
+            && self.second.iter().copied().eq(2..=10)
+            && self.small.iter().copied().eq(0..7)
+            && [self.both, self.above, self.in_range, self.bad_second].iter().all(|&n| n > 50)
+            && self.seven.min(self.size_seven) > 50
+    }
+}
+
 #[test]
 fn answers() {
     let total = count(22_000);
-    let mut seen = [0u64; 16];
+    let mut seen = [0u64; 17];
     let mut names = BTreeSet::new();
     let mut aligns = Aligns::default();
+    let mut forms = Forms::default();
     for (i, case) in cases(SEED, total).enumerate() {
         let outcome = RIGHT.outcome(&case.call);
         let got = (outcome.number(), outcome.position());
@@ -105,6 +230,9 @@ fn answers() {
         assert_eq!(difference(&case.call, &outcome, &outcome), "", "{at}");
         untagged_answer(&case.call, got, &at);
         aligns.count(&case.call, got.0);
+        if [0, 8, 16].contains(&got.0) {
+            forms.count(&case.call.file, got);
+        }
         match (got.0, examine(&case.call.file)) {
             (0 | 12..=14, examined) => assert!(examined.is_ok(), "{at}"),
             (_, examined) => assert!(examined.is_err() && outcome.examine == outcome.load, "{at}"),
@@ -112,9 +240,12 @@ fn answers() {
         seen[usize::from(got.0)] += 1;
         names.insert(case.name);
     }
-    println!("taken {}, refused 1 to 15: {:?}", seen[0], &seen[1..]);
+    println!("taken {}, refused 1 to 16: {:?}", seen[0], &seen[1..]);
     println!("{aligns:?}");
+    println!("{forms:?}");
     assert!(total < 22_000 || aligns.enough());
+    let everywhere = forms.outside > 50 && forms.places.iter().all(|&n| n > 50);
+    assert!(total < 22_000 || forms.enough() && everywhere);
     assert!(seen.iter().all(|&n| n > 0));
     let each =
         |d: &loader::generate::damage::Damage| names.contains(&format!("{}: {}", d.row, d.name));
@@ -123,8 +254,10 @@ fn answers() {
 
 #[test]
 fn steps_move_on() {
-    let mut seen = [0; 4];
-    for i in 0..count(20_000) {
+    let mut seen = [0; 5];
+    let mut forms = Forms::default();
+    let total = count(20_000);
+    for i in 0..total {
         let c = step_case(SEED, i);
         match step(&c.table, c.position, c.last_end, c.index) {
             Ok(Step::Finished) => {
@@ -136,15 +269,24 @@ fn steps_move_on() {
                 assert!(c.last_end <= start && granules > 0 && end == start + 16 * granules);
                 assert!(end <= 1 << 48);
                 seen[1] += 1;
+                forms.taken(&Form::read(&c.table[c.position as usize..]).unwrap());
             }
             Err(r) => {
                 assert_eq!(r.position, c.index);
-                seen[usize::from(r.number) - 6] += 1;
+                let bytes = c.table.get(c.position as usize..).unwrap_or_default();
+                match r.number {
+                    16 => forms.long(&Form::read(bytes).unwrap(), c.last_end, &[(0, 1 << 48)]),
+                    8 => forms.bad(bytes),
+                    _ => {}
+                }
+                seen[if r.number == 16 { 4 } else { usize::from(r.number) - 6 }] += 1;
             }
         }
     }
-    println!("finished, global, 8, 9: {seen:?}");
+    println!("finished, global, 8, 9, 16: {seen:?}");
+    println!("{forms:?}");
     assert!(seen.iter().all(|&n| n > 0));
+    assert!(total < 20_000 || forms.enough());
 }
 
 /// The table of a list, or refusal number and index: the rules one by one, on exact numbers.
@@ -247,37 +389,4 @@ fn bytes_of_descriptors(table: &[u8]) -> Vec<usize> {
         (at, last_end) = (position, end);
     }
     list
-}
-
-/// Addresses and sizes of a table that is read to its end.
-fn listed(table: &[u8]) -> Option<(Vec<u64>, Vec<u64>)> {
-    let (mut at, mut last_end) = (0, 0);
-    let (mut addresses, mut sizes) = (Vec::new(), Vec::new());
-    while let Step::Global { start, granules, position, end } = step(table, at, last_end, 0).ok()? {
-        addresses.push(start);
-        sizes.push(16 * granules);
-        (at, last_end) = (position, end);
-    }
-    Some((addresses, sizes))
-}
-
-/// A table that was in shortest form comes back byte for byte, another one in fewer bytes.
-#[test]
-fn tables_written_again() {
-    let (mut same, mut shorter) = (0, 0);
-    for i in 0..count(20_000) {
-        let table = step_case(SEED, i).table;
-        let Some((addresses, sizes)) = listed(&table) else { continue };
-        let mut buffer = vec![0; table.len()];
-        let length = write_table(&addresses, &sizes, &mut buffer).unwrap();
-        assert_eq!(listed(&buffer[..length]), Some((addresses, sizes)), "table {i}");
-        if length == table.len() {
-            assert_eq!(buffer, table, "table {i}");
-            same += 1;
-        } else {
-            shorter += 1;
-        }
-    }
-    println!("{same} in shortest form, {shorter} not");
-    assert!(same > 0 && shorter > 0);
 }

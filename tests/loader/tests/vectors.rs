@@ -7,7 +7,7 @@ use loader::{examine, load_untagged, step, vectors, Refusal};
 
 #[test]
 fn loads() {
-    for (set, count) in vectors::LOADS.into_iter().zip([700, 262, 341, 198, 155]) {
+    for (set, count) in vectors::LOADS.into_iter().zip([700, 262, 341, 198, 155, 269]) {
         let vectors = vectors::loads(set);
         assert_eq!(vectors.len(), count);
         for (i, v) in vectors.iter().enumerate() {
@@ -45,7 +45,7 @@ fn large_loads() {
 
 #[test]
 fn untagged_loads() {
-    for (folder, count) in vectors::UNTAGGED.into_iter().zip([262, 341, 198, 155]) {
+    for (folder, count) in vectors::UNTAGGED.into_iter().zip([262, 341, 198, 155, 269]) {
         let vectors = vectors::untagged_loads(folder);
         assert_eq!(vectors.len(), count);
         for (i, v) in vectors.iter().enumerate() {
@@ -58,11 +58,13 @@ fn untagged_loads() {
 
 #[test]
 fn steps() {
-    let vectors = vectors::steps();
-    assert_eq!(vectors.len(), 400);
-    for (i, v) in vectors.iter().enumerate() {
-        let line = vectors::step_line(&step(&v.table, v.position, v.last_end, v.index));
-        assert_eq!(line, v.answer, "case {i}");
+    for (set, count) in vectors::STEPS.into_iter().zip([400, 303]) {
+        let vectors = vectors::steps(set);
+        assert_eq!(vectors.len(), count);
+        for (i, v) in vectors.iter().enumerate() {
+            let line = vectors::step_line(&step(&v.table, v.position, v.last_end, v.index));
+            assert_eq!(line, v.answer, "{set}: case {i}");
+        }
     }
 }
 

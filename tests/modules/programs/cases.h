@@ -18,7 +18,7 @@ static int get(uint64_t *value, int bytes)
 }
 
 /* CRC-32 as zlib computes it. */
-static uint32_t crc(const uint8_t *bytes, size_t length)
+static inline uint32_t crc(const uint8_t *bytes, size_t length)
 {
     static uint32_t table[256];
     for (uint32_t i = 0; i < 256 && !table[255]; i++) {

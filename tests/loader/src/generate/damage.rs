@@ -1,5 +1,5 @@
-//! Damages: each changes a valid module at one clause of one row of document 01, or of refusal 15, on the
-//! side that is refused or just inside the limit, and knows the answer.
+//! Damages: each changes a valid module at one clause of one row of document 01, or of refusal 15 or 16, on
+//! the side that is refused or just inside the limit, and knows the answer.
 
 use super::module::*;
 use crate::random::Random;
@@ -190,14 +190,12 @@ fn after(m: &mut Module, words: &[u64]) -> Option<usize> {
     Some(index)
 }
 
-// Rows 8 and 9.
+// Rows 8, 16 and 9.
 
 /// A prefix of the globals, then other bytes; the index of what follows the prefix.
 fn tail(m: &mut Module, r: &mut Random, bytes: &[u8]) -> Option<usize> {
     let k = r.index(m.globals.len() + 1);
-    let mut all = m.plain_prefix(k);
-    all.extend(bytes);
-    given(m.put_descriptors(all))?;
+    given(m.put_descriptors([&m.encoded()[..k].concat(), bytes].concat()))?;
     Some(k)
 }
 
@@ -211,15 +209,112 @@ fn far(m: &mut Module, r: &mut Random, bytes: &[u8]) -> Option<Expected> {
     refused(9, k)
 }
 
+/// The first, the middle, the last or any index.
+fn place(r: &mut Random, count: usize) -> Option<usize> {
+    given(count > 0)?;
+    let any = r.index(count);
+    Some(r.pick(&[0, count / 2, count - 1, any]))
+}
+
+/// The table with other bytes for some descriptors.
+fn replace(m: &mut Module, others: &[(usize, Vec<u8>)]) -> Option<()> {
+    let mut each = m.encoded();
+    for (k, bytes) in others {
+        each[*k].clone_from(bytes);
+    }
+    given(m.put_descriptors(each.concat()))
+}
+
+/// The descriptor of a global, longer in such a way.
+fn long_form(m: &Module, r: &mut Random, k: usize, how: Long) -> Option<Vec<u8>> {
+    let g = m.globals[k];
+    longer(r, (g.start - m.end_before(k)) / 16, g.granules, how)
+}
+
+/// A table of the same globals, one of them in a longer form.
+fn long(m: &mut Module, r: &mut Random, how: Long) -> Option<Expected> {
+    let k = place(r, m.globals.len())?;
+    let bytes = long_form(m, r, k, how)?;
+    replace(m, &[(k, bytes)])?;
+    refused(16, k)
+}
+
+/// Other bytes in a longer form for one of the descriptors; what stands behind them is not reached.
+fn long_bytes(m: &mut Module, r: &mut Random, bytes: Vec<u8>) -> Option<Expected> {
+    let k = place(r, m.globals.len())?;
+    replace(m, &[(k, bytes)])?;
+    refused(16, k)
+}
+
+/// Two descriptors, the first before the second.
+fn two_places(m: &Module, r: &mut Random) -> Option<(usize, usize)> {
+    let j = place(r, m.globals.len())?;
+    given(j > 0)?;
+    Some((r.index(j), j))
+}
+
+/// A global behind the largest memory.
+fn behind(r: &mut Random) -> Vec<u8> {
+    descriptor(1 << r.from(20, 40), r.from(1, 9))
+}
+
+/// A global outside every PT_LOAD, in a longer form: behind them all, or over the end of the last.
+fn long_outside(m: &mut Module, r: &mut Random, how: Long) -> Option<Expected> {
+    let k = place(r, m.globals.len())?;
+    let (end, granules) = (m.last_end().div_ceil(16), r.from(1, 12));
+    let over = end.saturating_sub(r.below(granules)).max(m.end_before(k) / 16);
+    let start = if r.once_in(2) { over } else { end + r.below(300) };
+    given(start + granules > m.last_end() / 16)?;
+    let bytes = longer(r, start - m.end_before(k) / 16, granules, how)?;
+    replace(m, &[(k, bytes)])?;
+    refused(16, k)
+}
+
+/// Distances that are too large whatever the size, in granules.
+fn far_distance(r: &mut Random) -> u64 {
+    let from = r.pick(&[1 << 44, 1 << 45, 1 << 52, 1 << 60, (1 << 61) - 4]);
+    from + r.below(4)
+}
+
+/// A global that ends above 2^48, in a longer form.
+fn long_far(m: &mut Module, r: &mut Random, how: Long) -> Option<Expected> {
+    let (mut distance, mut granules) = (far_distance(r), r.from(1, 12));
+    if r.once_in(2) {
+        (distance, granules) = (r.below(40), r.pick(&[1 << 45, 1 << 60, u64::MAX]) - r.below(3));
+    }
+    let bytes = longer(r, distance, granules, how)?;
+    long_bytes(m, r, bytes)
+}
+
+/// A second number that is missing, cut or too long.
+pub(super) fn bad_second(r: &mut Random) -> Vec<u8> {
+    let long = |nine: [u8; 9], tenth| [&nine[..], &[tenth, 0]].concat();
+    match r.below(6) {
+        0 => vec![],
+        1 => vec![0x80],
+        2 => vec![0xff; 9],
+        3 => long([0x80; 9], r.pick(&[2, 0x7f, 0x80])),
+        4 => long([0xff; 9], r.pick(&[2, 3, 0x81])),
+        _ => vec![r.pick(&[0x81, 0xff]); r.from(1, 9) as usize],
+    }
+}
+
+/// Another size of a global, from this size on; those behind it keep their places.
+fn resize(m: &mut Module, r: &mut Random, from: u64, to: u64) -> Option<Expected> {
+    let all: Vec<usize> = (0..m.globals.len()).filter(|&i| m.globals[i].granules >= from).collect();
+    let k = one(r, &all)?;
+    m.globals[k].granules = to;
+    given(m.put_descriptors(m.encoded().concat()))?;
+    m.make_choices(r);
+    Some(Taken)
+}
+
 /// The globals that end at or before a start, then one more with that start.
 fn one_global(m: &mut Module, r: &mut Random, start: u64, granules: u64) -> Option<usize> {
     let k = m.globals.iter().take_while(|g| g.end() <= start).count();
-    let last_end = if k == 0 { 0 } else { m.globals[k - 1].end() };
-    let mut bytes = m.plain_prefix(k);
-    bytes.extend(descriptor(r, (start - last_end) / 16, granules, true));
-    given(m.put_descriptors(bytes))?;
     m.globals.truncate(k);
     m.globals.push(Global { start, granules });
+    given(m.put_descriptors(m.encoded().concat()))?;
     m.make_choices(r);
     Some(k)
 }
@@ -937,28 +1032,108 @@ pub const DAMAGES: &[Damage] = &[
     }),
     damage(8, "last descriptor cut", |m, r| {
         let k = m.globals.len().checked_sub(1)?;
-        let mut bytes = m.plain_prefix(k);
-        let last_end = if k == 0 { 0 } else { m.globals[k - 1].end() };
-        let g = m.globals[k];
-        let last = descriptor(r, (g.start - last_end) / 16, g.granules, false);
+        let how = r.pick(&LONGS);
+        let whole = long_form(m, r, k, how);
+        let mut last = whole.filter(|_| r.once_in(2)).unwrap_or_else(|| m.encoded()[k].clone());
         given(last.len() > 1)?;
-        bytes.extend(&last[..last.len() - 1]);
-        given(m.put_descriptors(bytes))?;
+        last.pop();
+        replace(m, &[(k, last)])?;
         refused(8, k)
     }),
-    damage(8, "padded to ten", |m, r| {
-        let k = m.globals.len().checked_sub(1)?;
-        let mut bytes = m.plain_prefix(k);
-        let last_end = if k == 0 { 0 } else { m.globals[k - 1].end() };
-        let (distance, size) = ((m.globals[k].start - last_end) / 16, m.globals[k].granules);
-        if r.once_in(2) && size <= 7 {
-            bytes.extend(uleb(distance << 3 | size, 10));
-        } else {
-            bytes.extend(uleb(distance << 3, 10));
-            bytes.extend(uleb(size - 1, 10));
-        }
-        given(m.put_descriptors(bytes))?;
-        Some(Taken)
+    damage(8, "first padded, second bad", |m, r| {
+        let first = r.below(20) << 3;
+        let bytes = [padded(r, first)?, bad_second(r)].concat();
+        bad_number(m, r, &bytes)
+    }),
+    damage(8, "first padded and far, second bad", |m, r| {
+        let first = far_distance(r) << 3;
+        let bytes = [padded(r, first)?, bad_second(r)].concat();
+        bad_number(m, r, &bytes)
+    }),
+    damage(16, "first number padded", |m, r| long(m, r, Long::First)),
+    damage(16, "second number padded", |m, r| long(m, r, Long::Second)),
+    damage(16, "both numbers padded", |m, r| long(m, r, Long::Both)),
+    damage(16, "second number below 7", |m, r| long(m, r, Long::Small)),
+    damage(16, "second number below 7, first padded", |m, r| long(m, r, Long::SmallFirst)),
+    damage(16, "second number below 7 and padded", |m, r| long(m, r, Long::SmallSecond)),
+    damage(16, "second number below 7, both padded", |m, r| long(m, r, Long::SmallBoth)),
+    damage(16, "padded to ten", |m, r| {
+        let k = place(r, m.globals.len())?;
+        let (distance, size) = ((m.globals[k].start - m.end_before(k)) / 16, m.globals[k].granules);
+        let number = |value| uleb(value, 10);
+        let bytes = match size {
+            1..=7 => number(distance << 3 | size),
+            _ => [number(distance << 3), number(size - 1)].concat(),
+        };
+        replace(m, &[(k, bytes)])?;
+        refused(16, k)
+    }),
+    damage(16, "second number of 7", |m, r| resize(m, r, 8, 8)),
+    damage(16, "size of 7", |m, r| resize(m, r, 7, 7)),
+    damage(16, "any size, all in shortest form", |m, r| {
+        let size = r.from(1, 12);
+        resize(m, r, size, size)
+    }),
+    damage(16, "and outside", |m, r| {
+        let how = r.pick(&LONGS);
+        long_outside(m, r, how)
+    }),
+    damage(16, "second number below 7 and outside", |m, r| long_outside(m, r, Long::Small)),
+    damage(16, "and above 2^48", |m, r| {
+        let how = r.pick(&LONGS);
+        long_far(m, r, how)
+    }),
+    damage(16, "second number below 7 and above 2^48", |m, r| long_far(m, r, Long::Small)),
+    damage(16, "the longest numbers, padded", |m, r| {
+        // 2^63 - 1 and numbers beside it, in ten bytes.
+        let nine = [&[r.pick(&[0x80, 0xf8, 0xff])], &NINE[1..], &[0]].concat();
+        let bytes = match r.below(3) {
+            _ if nine[0] & 7 != 0 => nine,
+            0 => [nine, uleb(r.from(7, 20), 1)].concat(),
+            1 => [&nine[..], &NINE, &[1]].concat(),
+            _ => [&nine[..], &NINE, &[0]].concat(),
+        };
+        long_bytes(m, r, bytes)
+    }),
+    damage(16, "second number the longest, padded", |m, r| {
+        let bytes = [&[8 * r.below(3) as u8], &NINE[..], &[0]].concat();
+        long_bytes(m, r, bytes)
+    }),
+    damage(16, "two", |m, r| {
+        let (i, j) = (place(r, m.globals.len())?, place(r, m.globals.len())?);
+        let (a, b) = (r.pick(&LONGS), r.pick(&LONGS));
+        let others = [(i, long_form(m, r, i, a)?), (j, long_form(m, r, j, b)?)];
+        replace(m, &others)?;
+        refused(16, i.min(j))
+    }),
+    damage(16, "then outside", |m, r| {
+        let (i, j) = two_places(m, r)?;
+        let how = r.pick(&LONGS);
+        let others = [(i, long_form(m, r, i, how)?), (j, behind(r))];
+        replace(m, &others)?;
+        refused(16, i)
+    }),
+    damage(16, "then cut", |m, r| {
+        let last = m.globals.len().checked_sub(1)?;
+        let (i, _) = two_places(m, r)?;
+        let how = r.pick(&LONGS);
+        let others = [(i, long_form(m, r, i, how)?), (last, vec![r.pick(&[0, 0x80])])];
+        replace(m, &others)?;
+        refused(16, i)
+    }),
+    damage(16, "after outside", |m, r| {
+        let (i, j) = two_places(m, r)?;
+        let how = r.pick(&LONGS);
+        let others = [(i, behind(r)), (j, long_form(m, r, j, how)?)];
+        replace(m, &others)?;
+        refused(9, i)
+    }),
+    damage(16, "after a number too long", |m, r| {
+        let (i, j) = two_places(m, r)?;
+        let how = r.pick(&LONGS);
+        let others = [(i, [&NINE[..], &[2]].concat()), (j, long_form(m, r, j, how)?)];
+        replace(m, &others)?;
+        refused(8, i)
     }),
     damage(8, "bad after outside", |m, r| {
         let k = tail(m, r, &[0xf9, 0xff, 0xff, 0xff, 0x0f, 0x80])?;

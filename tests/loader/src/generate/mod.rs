@@ -88,7 +88,7 @@ fn single(r: &mut Random, damage: &Damage) -> Case {
 fn stage(row: u8) -> u8 {
     match row {
         15 => 2 * 7 + 1,
-        9 => 2 * 8,
+        9 | 16 => 2 * 8,
         11 => 2 * 10,
         _ => 2 * row,
     }
@@ -234,14 +234,24 @@ pub struct StepCase {
 
 pub fn step_case(seed: u64, number: u64) -> StepCase {
     let mut r = Random::new(!seed ^ number.wrapping_mul(0xd134_2543_de82_ef95));
-    let mut table = Vec::new();
+    let (mut table, mut starts) = (Vec::new(), vec![0]);
     for _ in 0..r.below(6) {
         let (distance, granules) = match r.below(4) {
             0 => (r.edge() >> 3, r.edge().max(1)),
             1 => ((1 << 44) - r.below(20), r.from(1, 20)),
             _ => (r.below(300), r.from(1, 20)),
         };
-        table.extend(module::descriptor(&mut r, distance, granules, false));
+        let how = r.pick(&module::LONGS);
+        let long = module::longer(&mut r, distance, granules, how).filter(|_| r.once_in(3));
+        starts.push(table.len() as u64);
+        table.extend(long.unwrap_or_else(|| module::descriptor(distance, granules)));
+    }
+    if r.once_in(20) {
+        // A padded first number, and a second that is bad.
+        starts.push(table.len() as u64);
+        let first = r.below(20) << 3;
+        table.extend(module::padded(&mut r, first).expect("a short number"));
+        table.extend(damage::bad_second(&mut r));
     }
     if r.once_in(8) {
         // A number of ten bytes, first or second, with the tenth around its limit.
@@ -264,8 +274,9 @@ pub fn step_case(seed: u64, number: u64) -> StepCase {
         0 => r.edge(),
         1 => length,
         2 => length + 1,
-        3 => 0,
-        _ => r.below(length + 1),
+        3 => r.below(length + 1),
+        // Where a descriptor begins, unless the table was cut.
+        _ => r.pick(&starts).min(length),
     };
     let last_end = match r.below(6) {
         0 => r.edge(),

@@ -182,16 +182,61 @@ pub fn uleb(mut value: u64, bytes: usize) -> Vec<u8> {
     }
 }
 
-/// A descriptor, short where it can be unless told otherwise, at times padded.
-pub fn descriptor(r: &mut Random, distance: u64, granules: u64, plain: bool) -> Vec<u8> {
-    let mut pad = || if plain || !r.once_in(6) { 1 } else { r.from(2, 10) as usize };
-    let (first, second) = (pad(), pad());
-    if granules <= 7 && (plain || !r.once_in(5)) {
-        return uleb(distance << 3 | granules, first);
+/// A descriptor in its shortest form.
+pub fn descriptor(distance: u64, granules: u64) -> Vec<u8> {
+    match granules {
+        1..=7 => uleb(distance << 3 | granules, 1),
+        _ => [uleb(distance << 3, 1), uleb(granules - 1, 1)].concat(),
     }
-    let mut out = uleb(distance << 3, first);
-    out.extend(uleb(granules - 1, second));
-    out
+}
+
+/// How a descriptor can be longer than its shortest form.
+#[derive(Clone, Copy, Debug, PartialEq, Eq)]
+pub enum Long {
+    /// A padded number: the only one or the first of two, the second, both.
+    First,
+    Second,
+    Both,
+    /// A second number for a size below 8; then one of the numbers, or both, padded.
+    Small,
+    SmallFirst,
+    SmallSecond,
+    SmallBoth,
+}
+
+pub const LONGS: [Long; 7] = [
+    Long::First,
+    Long::Second,
+    Long::Both,
+    Long::Small,
+    Long::SmallFirst,
+    Long::SmallSecond,
+    Long::SmallBoth,
+];
+
+/// A number padded to any length up to ten bytes; none where it needs them all.
+pub fn padded(r: &mut Random, value: u64) -> Option<Vec<u8>> {
+    let least = uleb(value, 1).len() as u64;
+    (least < 10).then(|| uleb(value, r.from(least + 1, 10) as usize))
+}
+
+/// A descriptor that is longer in such a way; none where the size leaves no such form.
+pub fn longer(r: &mut Random, distance: u64, granules: u64, how: Long) -> Option<Vec<u8>> {
+    let small = granules < 8;
+    let (first, second) = (distance << 3, granules - 1);
+    let (pads_first, pads_second) = match how {
+        Long::First if small => return padded(r, first | granules),
+        Long::Small if small => (false, false),
+        Long::First => (true, false),
+        Long::SmallFirst if small => (true, false),
+        Long::SmallSecond if small => (false, true),
+        Long::SmallBoth if small => (true, true),
+        Long::Second if !small => (false, true),
+        Long::Both if !small => (true, true),
+        _ => return None,
+    };
+    let mut number = |value, pads| if pads { padded(r, value) } else { Some(uleb(value, 1)) };
+    Some([number(first, pads_first)?, number(second, pads_second)?].concat())
 }
 
 /// The places that packed words name, each with the index of its word: bit by bit, on exact numbers.
@@ -306,6 +351,17 @@ fn globals(r: &mut Random, loads: &[&Header], count: usize, short: bool) -> Vec<
         }
     }
     list
+}
+
+/// The descriptors of globals, in shortest form.
+fn encoded(globals: &[Global]) -> Vec<Vec<u8>> {
+    let mut last_end = 0;
+    let mut each = |g: &Global| {
+        let distance = (g.start - last_end) / 16;
+        last_end = g.end();
+        descriptor(distance, g.granules)
+    };
+    globals.iter().map(&mut each).collect()
 }
 
 impl Module {
@@ -438,13 +494,7 @@ impl Module {
         // Descriptors end where their room ends.
         let used: Vec<&Header> = list[..last_used].iter().collect();
         let globals = globals(r, &used, wanted_globals, shape.short_globals);
-        let mut last_end = 0;
-        let mut descriptors = Vec::new();
-        for g in &globals {
-            let distance = (g.start - last_end) / 16;
-            descriptors.extend(descriptor(r, distance, g.granules, shape.short_globals));
-            last_end = g.end();
-        }
+        let descriptors = encoded(&globals).concat();
 
         // Program headers: loads in order, PT_DYNAMIC and others between them.
         let mut headers = list.clone();
@@ -948,20 +998,14 @@ impl Module {
         true
     }
 
-    /// The first so many globals, encoded plainly.
-    pub fn plain_prefix(&self, count: usize) -> Vec<u8> {
-        let mut last_end = 0;
-        let mut bytes = Vec::new();
-        for g in &self.globals[..count] {
-            bytes.extend(descriptor(
-                &mut Random::new(0),
-                (g.start - last_end) / 16,
-                g.granules,
-                true,
-            ));
-            last_end = g.end();
-        }
-        bytes
+    /// The descriptors of the globals, in shortest form.
+    pub fn encoded(&self) -> Vec<Vec<u8>> {
+        encoded(&self.globals)
+    }
+
+    /// The end of the global before, or 0.
+    pub fn end_before(&self, index: usize) -> u64 {
+        index.checked_sub(1).map_or(0, |before| self.globals[before].end())
     }
 
     fn put(file: &mut [u8], at: usize, bytes: &[u8]) {

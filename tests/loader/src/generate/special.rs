@@ -36,6 +36,12 @@ fn many_globals(r: &mut Random, count: usize) -> Module {
     Module::shaped(r, &shape)
 }
 
+/// The first so many descriptors, then other bytes.
+fn last_descriptor(m: &mut Module, count: usize, bytes: &[u8]) {
+    let table = [&m.encoded()[..count].concat(), bytes].concat();
+    assert!(m.put_descriptors(table));
+}
+
 fn many_relocations(r: &mut Random, count: usize) -> Module {
     Module::shaped(r, &Shape { relocations: Some(count), ..Shape::default() })
 }
@@ -250,10 +256,18 @@ pub const SPECIALS: &[Special] = &[
     ("1,025 descriptors", |r| (many_globals(r, 1_025).call(), Taken)),
     ("1,025 descriptors, the last cut", |r| {
         let mut m = many_globals(r, 1_025);
-        let mut bytes = m.plain_prefix(1_024);
-        bytes.push(0x80);
-        assert!(m.put_descriptors(bytes));
+        last_descriptor(&mut m, 1_024, &[0x80]);
         (m.call(), Refused(8, 1_024))
+    }),
+    ("1,025 descriptors, the last padded", |r| {
+        let mut m = many_globals(r, 1_025);
+        last_descriptor(&mut m, 1_024, &[0x81, 0]);
+        (m.call(), Refused(16, 1_024))
+    }),
+    ("1,025 descriptors, the last with a second number of 0", |r| {
+        let mut m = many_globals(r, 1_025);
+        last_descriptor(&mut m, 1_024, &[0, 0]);
+        (m.call(), Refused(16, 1_024))
     }),
     ("1,025 descriptors, the last choice as before", |r| {
         let mut m = many_globals(r, 1_025);
@@ -386,16 +400,22 @@ pub const LARGE_SPECIALS: &[Special] = &[
     ("65,537 descriptors", |r| (many_globals(r, MOST + 1).call(), Refused(9, MOST as u64))),
     ("65,536 descriptors and a cut one", |r| {
         let mut m = many_globals(r, MOST);
-        let mut bytes = m.plain_prefix(MOST);
-        bytes.push(0x80);
-        assert!(m.put_descriptors(bytes));
+        last_descriptor(&mut m, MOST, &[0x80]);
         (m.call(), Refused(9, MOST as u64))
+    }),
+    ("65,536 descriptors and a padded one", |r| {
+        let mut m = many_globals(r, MOST);
+        last_descriptor(&mut m, MOST, &[0x81, 0]);
+        (m.call(), Refused(9, MOST as u64))
+    }),
+    ("65,536 descriptors, the last padded", |r| {
+        let mut m = many_globals(r, MOST);
+        last_descriptor(&mut m, LAST, &[0x81, 0x80, 0]);
+        (m.call(), Refused(16, LAST as u64))
     }),
     ("65,536 descriptors, the last cut", |r| {
         let mut m = many_globals(r, MOST);
-        let mut bytes = m.plain_prefix(LAST);
-        bytes.push(0x80);
-        assert!(m.put_descriptors(bytes));
+        last_descriptor(&mut m, LAST, &[0x80]);
         (m.call(), Refused(8, LAST as u64))
     }),
     ("65,536 descriptors, the last choice as before", |r| {
