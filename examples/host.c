@@ -34,6 +34,7 @@ static const struct {
     {"a relocated address is below 0 or at least 2^48", "relocation (RELA entries, then packed words)"},
     {"the number of tag choices is not the number of globals, or a choice is bad", "choice, or the number of globals"},
     {"the packed relocations are not in the file part of one PT_LOAD, begin with a bitmap, or make over 65,536 with the others", "packed word"},
+    {"a global's descriptor has more bytes than it needs: a padded number, or a second number for a size below 8 granules", "descriptor"},
 };
 
 static int refused(uint64_t answer)

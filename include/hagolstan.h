@@ -9,17 +9,19 @@
  *
  * The answer of examine and of the load is one 64-bit number:
  *   taken:    globals * 256
- *   refused:  position * 256 + refusal number (1 to 15)
+ *   refused:  position * 256 + refusal number (1 to 16)
  * so the low byte of an answer is 0 exactly when the call was taken. The answer of the writer of tables has the
  * same form, with the table's length for the globals and refusals of its own.
  *
- * Checks are made in the order of their numbers, but 15 after 7 and before 8; 8 and 9 are one walk over the
- * descriptors, 10 and 11 one over the relocations. What a position counts:
+ * The order of the checks is 1 to 7, 15, then 8, 16 and 9, which are one walk over the descriptors, then 10 and 11,
+ * one over the relocations, then 12 to 14. At each descriptor 8 comes first (it is cut short, or a number of it is too
+ * long), then 16 (fewer bytes say the same: a number has more than one byte and the last is 0, or there is a second
+ * number for a size below 8 granules), then 9 (its range). What a position counts:
  *   2          bytes of the file
  *   4, 5       program headers; 5 without a PT_DYNAMIC gives their number
  *   6          dynamic entries; a missing partner gives the first DT_NULL
  *   7          0 the RELA table, 1 the descriptor table
- *   8, 9       descriptors
+ *   8, 9, 16   descriptors
  *   10         RELA entries, skipped ones too
  *   11, 13     RELA entries, then words of the packed table (DT_RELR): the number of RELA entries plus the word's index
  *   14         choices; a wrong number of them gives the number of globals
@@ -44,7 +46,7 @@ extern "C" {
 #define HAGOLSTAN_RELOCATION_LIMIT 65536
 #define HAGOLSTAN_GLOBAL_LIMIT 65536
 
-/* Examines a module file: checks 1 to 11 and 15. Reads the file only. */
+/* Examines a module file: checks 1 to 11, 15 and 16. Reads the file only. */
 uint64_t hagolstan_examine(const uint8_t *file, size_t file_length);
 
 /* The facts of a module file that hagolstan_examine takes, in one number; 0 where it refuses the file.
@@ -58,7 +60,7 @@ uint64_t hagolstan_examine(const uint8_t *file, size_t file_length);
  * Every other bit, and the kept ones today, are 0. HAGOLSTAN_MODE and the macros after it take the number apart. */
 uint64_t hagolstan_facts(const uint8_t *file, size_t file_length);
 
-/* Loads a module: checks 1 to 15, and only then writes.
+/* Loads a module: checks 1 to 16, and only then writes.
  *   file      the module, an ELF64 shared object, at most HAGOLSTAN_FILE_LIMIT bytes
  *   bias      the address at which memory begins at run time, a multiple of 4,096 and of the largest align of
  *             any PT_LOAD (0 counts as 1). Only the number is asked: the buffer that is lent may stand
@@ -78,13 +80,15 @@ uint64_t hagolstan_load(const uint8_t *file, size_t file_length, uint64_t bias,
  *   0         finished: the position is the table's end; words stay as lent
  *   1         a global: words hold its start, its granules of 16 bytes, the next position and its end,
  *             eight little-endian bytes each
- *   8, 9      refused: the first word holds the position to report, which is the index handed in
- * Only what fits into words_length bytes is written; 32 hold all. */
+ *   8, 9, 16  refused: the first word holds the position to report, which is the index handed in
+ * Tested in this order: the position is past the table (8); the end handed in is no multiple of 16 or above 2^48 (9);
+ * the table's end (0); the descriptor is cut short, or a number of it is too long (8); fewer bytes say the same (16);
+ * its global ends above 2^48 (9). Only what fits into words_length bytes is written; 32 hold all. */
 uint64_t hagolstan_step(const uint8_t *table, size_t table_length, uint64_t position, uint64_t end,
                         uint64_t index, uint8_t *words, size_t words_length);
 
-/* Writes the descriptor table of a list of globals, in shortest form: what a linker puts into a module, and what
- * hagolstan_step reads.
+/* Writes the descriptor table of a list of globals, in shortest form: what a linker puts into a module, and the only
+ * table of these globals that hagolstan_step and the load take.
  *   addresses   where each global starts in the module, ascending
  *   sizes       the bytes of each global, in the same order; both lists are aligned as uint64_t is, and counted in
  *               numbers, not in bytes
