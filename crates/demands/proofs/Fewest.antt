@@ -124,7 +124,7 @@ module _ (s : List ℕ) (at : ℕ) (d : Descriptor) where
     one : Measured 10 s at (sizeLimit * d .distance + d .granules) (d .next)
     one = number-measured s at (sizeLimit * d .distance + d .granules) (d .next) read
 
-    one-form : shortAt s at ≡ not (padded s at (d .next))
+    pub one-form : shortAt s at ≡ not (padded s at (d .next))
     one-form = rw read (short-one s at (sizeLimit * d .distance + d .granules) (d .next) (λ q. omega arith))
 
     one-fewest : writtenEnd at d ≤ d .next
@@ -147,7 +147,7 @@ module _ (s : List ℕ) (at : ℕ) (d : Descriptor) where
     then : Measured 10 s after less (d .next)
     then = number-measured s after less (d .next) more
 
-    two-form : shortAt s at ≡ (not (padded s at after) && shortSecond s after (number less (d .next)))
+    pub two-form : shortAt s at ≡ (not (padded s at after) && shortSecond s after (number less (d .next)))
     two-form = rw (read, ← more) (short-two s at (sizeLimit * d .distance) after (omega arith))
 
     -- a size below 8 is written in as many bytes as the first number has

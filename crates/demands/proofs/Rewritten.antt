@@ -2,7 +2,7 @@
 -- Assumes nothing.
 use Prim.Native.Nat.{ℕ, zero, suc, _+_, _*_, _-_, _/_, _%_, _≤_, _<_}
 use mathlib.Core.Path.{_≡_, refl, sym, _∙_, subst}
-use mathlib.Core.Bool.{Bool, true, false, cond, not, _&&_}
+use mathlib.Core.Bool.{Bool, true, false, cond, not}
 use mathlib.Core.List.{List, [], _∷_, _++_, append-assoc}
 use mathlib.Core.Logic.{_⊎_, ⊎-elim}
 use native.Mathlib.Omega.{arith}
@@ -13,7 +13,7 @@ use Rattle.rules.specs.Outcome.{good, bad, refusal, andThen}
 use Rattle.rules.specs.Limits.{addressLimit, globalLimit, granule}
 use Rattle.rules.specs.Bytes.{part}
 use Rattle.rules.specs.Segments.{inMemory}
-use Rattle.rules.specs.Descriptors.{number, ulebAt, sizeLimit, padded, shortSecond, shortAt, Descriptor}
+use Rattle.rules.specs.Descriptors.{number, ulebAt, sizeLimit, padded, shortAt, Descriptor}
 use Rattle.rules.specs.Descriptors.{Read, finished, global, stepAt, onGlobal, globalsFrom, globalsOf, tableStart}
 use Rattle.rules.specs.Writer.{descriptorOf, tableFrom, tableOf}
 use Rattle.rules.specs.Reader.{moduleOf}
@@ -23,12 +23,13 @@ use Rattle.rules.specs.declared.Global.{Global}
 use Rattle.rules.specs.declared.Cursor.{Cursor}
 use Rattle.rules.specs.declared.Module.{Module}
 use Rattle.rules.proofs.OutcomeLaws.{bad-good, false-true, andThen-good, cond-held, and-left, and-right}
-use Rattle.rules.proofs.DescriptorLaws.{short-one, short-two, short-small, short-large}
+use Rattle.rules.proofs.DescriptorLaws.{short-small, short-large}
 use Rattle.laws.proofs.Checks.{good-same, le-or-lt}
 use Rattle.laws.proofs.Globals.{Chain, step-next, chain-at, chain-rise}
 use Rattle.demands.specs.Steps.{Says, in-one, in-two, Found}
 use Rattle.demands.specs.Writer.{Whole, Fits, Takes, addressesOf, sizesOf, Lists, WritesBack, Bytes, tableIn}
 use Rattle.demands.proofs.Spelling.{unpadded-tight, uleb-respelt}
+use Rattle.demands.proofs.Fewest.{one-form, two-form}
 use Rattle.demands.proofs.Forms.{shortest-short}
 use Rattle.demands.proofs.Steps.{steps}
 use Rattle.demands.proofs.Reading.{module-reads}
@@ -95,19 +96,16 @@ module _ (s : List ℕ) (bytes : Bytes s) (at : ℕ) (d : Descriptor) (short : s
   one-bytes : ulebAt s at ≡ number (sizeLimit * d .distance + d .granules) (d .next) → 1 ≤ d .granules → d .granules < sizeLimit
       → drop at s ≡ descriptorOf (d .distance) (d .granules) ++ drop (d .next) s
   one-bytes read some few =
-      let v = sizeLimit * d .distance + d .granules in
-      let form : not (padded s at (d .next)) ≡ true = sym (rw read (short-one s at v (d .next) (λ q. omega arith))) ∙ short in
-      rw (lt-ltb (d .granules) sizeLimit few) (uleb-respelt s bytes at v (d .next) read (unpadded-tight s at (d .next) form))
+      let form = sym (one-form s at d read some few) ∙ short in
+      rw (lt-ltb (d .granules) sizeLimit few) (uleb-respelt s bytes at _ (d .next) read (unpadded-tight s at (d .next) form))
 
   module _ (after less : ℕ) (read : ulebAt s at ≡ number (sizeLimit * d .distance) after) (more : ulebAt s after ≡ number less (d .next))
       (size : d .granules ≡ less + 1) where
-    two-form : (not (padded s at after) && shortSecond s after (number less (d .next))) ≡ true
-    two-form = sym (rw (read, ← more) (short-two s at (sizeLimit * d .distance) after (omega arith))) ∙ short
-
     two-bytes : drop at s ≡ descriptorOf (d .distance) (d .granules) ++ drop (d .next) s
     two-bytes =
-        let then = and-right (not (padded s at after)) _ two-form in
-        let first = uleb-respelt s bytes at _ after read (unpadded-tight s at after (and-left _ _ two-form)) in
+        let form = sym (two-form s at d after less read more size) ∙ short in
+        let then = and-right (not (padded s at after)) _ form in
+        let first = uleb-respelt s bytes at _ after read (unpadded-tight s at after (and-left _ _ form)) in
         let k : less + 1 - 1 ≡ less = omega arith in
         ⊎-elim
         (λ l.

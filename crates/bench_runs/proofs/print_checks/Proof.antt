@@ -11,4 +11,6 @@ check-load-requires c κs =
     sym (rw (read .read .given .1) at (read .before .before .read-module .ensures))
 
 pub print-checks-spec : {M : Type 1} → statement M
-print-checks-spec = tie.close (tie.spec (search needs) (search needs) (search needs) (search needs) (search needs) (search needs) (search needs) check-load-requires (search needs) (search needs) (search needs) (search needs) (search needs) (search needs))
+print-checks-spec =
+    tie.close (tie.spec (search needs) (search needs) (search needs) (search needs) (search needs) (search needs) (search needs) check-load-requires
+    (search needs) (search needs) (search needs) (search needs) (search needs) (search needs))
