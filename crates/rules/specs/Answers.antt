@@ -35,6 +35,8 @@ use Rattle.rules.specs.declared.GlobalsAnswer.{GlobalsAnswer}
 use Rattle.rules.specs.declared.GlobalsAnswer.the-variants as globals
 use Rattle.rules.specs.declared.TableAnswer.{TableAnswer}
 use Rattle.rules.specs.declared.TableAnswer.the-variants as table
+use Rattle.rules.specs.declared.PicksAnswer.{PicksAnswer}
+use Rattle.rules.specs.declared.PicksAnswer.the-variants as picks
 use Rattle.rules.specs.declared.ModuleAnswer.{ModuleAnswer}
 use Rattle.rules.specs.declared.ModuleAnswer.the-variants as module-answer
 use Rattle.rules.specs.declared.Answer.{Answer}
@@ -85,6 +87,10 @@ countOf o = mapped length o
 abbrev pub ofTable : TableAnswer → Outcome ℕ
 ofTable (table.Written n) = good n
 ofTable (table.Refused r) = bad r
+
+abbrev pub ofPicks : PicksAnswer → Outcome ℕ
+ofPicks (picks.Picked n) = good n
+ofPicks (picks.Refused r) = bad r
 
 abbrev pub ofModule : ModuleAnswer → Outcome Module
 ofModule (module-answer.Found m) = good m

@@ -3,24 +3,27 @@
 use Prim.Native.Nat.{ℕ, _-_, _/_, _^_}
 use mathlib.Core.List.{List, [], _∷_, map}
 use mathlib.Core.Path.{_≡_}
+use lib.ListN.{length}
 use Rattle.rules.specs.Outcome.{Outcome, good, refuse}
 use Rattle.rules.specs.Limits.{granule}
 use Rattle.rules.specs.Descriptors.{Read, global, stepAt, tableStart}
 use Rattle.rules.specs.Plane.{planeOf}
 use Rattle.rules.specs.Words.{wordOf}
 use Rattle.rules.specs.Writer.{writtenOf}
+use Rattle.rules.specs.Picker.{pickedOf}
 use Rattle.rules.specs.declared.Cursor.{Cursor}
 use Rattle.rules.specs.declared.Global.{Global}
 use Rattle.rules.specs.declared.Target.the-variants.{Base}
 
 -- a descriptor table with the cursor to read it at; or the addend of a RELATIVE word with the place's eight bytes; or addresses and
--- sizes of globals to write a table of, with the buffer's length
+-- sizes of globals to write a table of, with the buffer's length; or to pick tags for, with a random byte each and the mask
 pub data Case : Type 0 where
   read : List ℕ → Cursor → Case
   word : ℕ → ℕ → Case
   table : List ℕ → List ℕ → ℕ → Case
+  pick : List ℕ → List ℕ → List ℕ → ℕ → Case
 
--- what reading one descriptor comes to; or the word written; or the table
+-- what reading one descriptor comes to; or the word written; or the table or the tags
 pub data Result : Type 0 where
   reads : Outcome Read → Result
   writes : ℕ → Result
@@ -49,6 +52,9 @@ written addend loaded says = record { given = word addend loaded; says = writes 
 
 abbrev given : List ℕ → List ℕ → ℕ → Outcome (List ℕ) → Row
 given addresses sizes room says = record { given = table addresses sizes room; says = gives says }
+
+abbrev picked : List ℕ → List ℕ → List ℕ → ℕ → Outcome (List ℕ) → Row
+picked addresses sizes random excluded says = record { given = pick addresses sizes random excluded; says = gives says }
 
 -- 82 10 10 07 01: three globals
 abbrev sheet : List ℕ
@@ -88,6 +94,13 @@ rows =
     ∷ given (0 ∷ []) (0x70 ∷ []) 2 (good (0x07 ∷ []))
     ∷ given (0 ∷ []) (0x80 ∷ []) 2 (good (0x00 ∷ 0x07 ∷ []))
     ∷ given (0x1000 ∷ 0x1040 ∷ []) (0x20 ∷ 0 ∷ []) 5 (refuse 2 1)
+    ∷ picked (0x1000 ∷ 0x1040 ∷ 0x10c0 ∷ []) (0x20 ∷ 0x80 ∷ 0x10 ∷ []) (0x13 ∷ 0x03 ∷ 0x03 ∷ []) 0 (good (3 ∷ 3 ∷ 4 ∷ []))
+    ∷ picked (0 ∷ []) (0x10 ∷ []) (0x0f ∷ []) 0xfffe (refuse 8 0)
+    ∷ picked (0 ∷ []) (0x10 ∷ []) (0x0f ∷ []) 0x8000 (good (1 ∷ []))
+    ∷ picked (0 ∷ 0x10 ∷ []) (0x10 ∷ 0x10 ∷ []) (0 ∷ 0 ∷ []) 0xffdf (refuse 8 0)
+    ∷ picked (0 ∷ 0x20 ∷ []) (0x10 ∷ 0x10 ∷ []) (0 ∷ 0 ∷ []) 0xffdf (good (5 ∷ 5 ∷ []))
+    ∷ picked (0 ∷ []) (0x10 ∷ []) [] 0 (refuse 7 0)
+    ∷ picked [] [] [] 0xffff (good [])
     ∷ []
 
 -- what the definitions say of a case, with index 0 to report
@@ -95,6 +108,7 @@ abbrev pub resultOf : Case → Result
 resultOf (read bytes from) = reads (stepAt 0 bytes from)
 resultOf (word addend loaded) = writes (wordOf plane bias memory Base addend loaded)
 resultOf (table addresses sizes room) = gives (writtenOf addresses sizes room)
+resultOf (pick addresses sizes random excluded) = gives (pickedOf addresses sizes random excluded (length addresses))
 
 -- the claim: each row says what the definitions say of its case
 abbrev pub BenchHolds : Type 0

@@ -21,6 +21,7 @@ pub mod Plane
 pub mod Words
 pub mod Load
 pub mod Writer
+pub mod Picker
 pub mod Answers
 pub mod Numbers
 pub mod Bench

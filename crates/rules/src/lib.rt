@@ -40,6 +40,12 @@ pub const RADIX: u64 = 128;
 // A descriptor's first number has a size below this, and its distance counts in units of this.
 pub const SIZES: u64 = 8;
 
+// Memory tags: a tag has four bits.
+pub const TAGS: u8 = 16;
+
+// The tag of a granule that no global has, and never a choice.
+pub const UNTAGGED: u8 = 0;
+
 // The dynamic tags that are known.
 pub const DT_SYMTAB: u64 = 6;
 
@@ -279,6 +285,12 @@ pub enum GlobalsAnswer {
 // The answer of the writer: the table's length.
 pub enum TableAnswer {
     Written(u64),
+    Refused(Refusal),
+}
+
+// The answer of the picker: how many globals have got a tag.
+pub enum PicksAnswer {
+    Picked(u64),
     Refused(Refusal),
 }
 
