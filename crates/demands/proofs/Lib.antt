@@ -20,7 +20,9 @@ pub mod Tags
 pub mod Refusals
 pub mod Writer
 pub mod Written
+pub mod Picker
 pub mod Rewritten
+pub mod Choosing
 pub mod Theorem
 pub mod Calls
 pub mod Promises

@@ -132,7 +132,7 @@ module _ (addresses sizes : List ℕ) where
       let whole = f .whole .whole-size in
       omega arith
 
-  fit-few : (i : ℕ) → FitBelow addresses sizes i → granule * i ≤ addressLimit
+  pub fit-few : (i : ℕ) → FitBelow addresses sizes i → granule * i ≤ addressLimit
   fit-few zero h = omega arith
   fit-few (suc i) h = let e = fit-end (suc i) h in let low = h i (omega arith) .low in omega arith
 
@@ -206,6 +206,38 @@ module _ (addresses sizes : List ℕ) where
         let here = good-listed i _ _ _ (fits-listed i (h i (omega arith) (omega arith))) in
         from-at i (omega arith) ∙ rw here (fault-from n (suc i) at number (omega arith) b (λ j a c. h j (omega arith) c) w)
 
+    -- the whole list
+    pub list-fits : listCheck 0 0 addresses sizes ≡ good tt → FitBelow addresses sizes (length addresses)
+    list-fits h j b = from-fits (length addresses) 0 (omega arith) h j (omega arith) b
+
+    pub fits-list : FitBelow addresses sizes (length addresses) → listCheck 0 0 addresses sizes ≡ good tt
+    fits-list h = fits-from (length addresses) 0 (omega arith) (λ j a b. h j b)
+
+    -- its first fault
+    pub record ListFault (r : Refusal) : Type 0 where
+      pub index : ℕ
+      pub number : ℕ
+      pub numbered : r ≡ refusal number index
+      pub below : index < length addresses
+      pub before : FitBelow addresses sizes index
+      pub wrong : Wrong addresses sizes index number
+
+    pub list-fault : (r : Refusal) → listCheck 0 0 addresses sizes ≡ bad r → ListFault r
+    list-fault r h =
+        let z = from-fault (length addresses) 0 r (omega arith) h in
+        record {
+          index = z .at;
+          number = z .fault .number;
+          numbered = z .fault .numbered;
+          below = z .below;
+          before = λ j b. z .before j (omega arith) b;
+          wrong = z .fault .wrong;
+        }
+
+    pub fault-list : (i number : ℕ) → i < length addresses → FitBelow addresses sizes i → Wrong addresses sizes i number
+        → listCheck 0 0 addresses sizes ≡ bad (refusal number i)
+    fault-list i number b h w = fault-from i 0 i number (omega arith) b (λ j a c. h j c) w
+
   -- ---- the call's outcome
 
   module _ (n : ℕ) where
@@ -216,7 +248,7 @@ module _ (addresses sizes : List ℕ) where
     pub takes-all : Takes addresses sizes n → All (writerChecks addresses sizes n)
     takes-all t = (
       require-true _ 1 0 (eq-eqb _ _ (t .as-many)),
-      (fits-from (t .as-many) (length addresses) 0 (omega arith) (λ j a b. t .fit j b), (require-true _ 6 0 (le-leb _ _ (t .room)), tt)),
+      (fits-list (t .as-many) (t .fit), (require-true _ 6 0 (le-leb _ _ (t .room)), tt)),
     )
 
     all-takes : All (writerChecks addresses sizes n) → Takes addresses sizes n
@@ -224,18 +256,18 @@ module _ (addresses sizes : List ℕ) where
         let l = eqb-true (length addresses) (length sizes) (require-held _ 1 0 (h .0)) in
         record {
           as-many = l;
-          fit = λ j b. from-fits l (length addresses) 0 (omega arith) (h .1 .0) j (omega arith) b;
+          fit = list-fits l (h .1 .0);
           room = leb-true (length (tableOf addresses sizes)) n (require-held _ 6 0 (h .1 .1 .0));
         }
 
     refuses-first : (r : Refusal) → Refuses addresses sizes n r → First (writerChecks addresses sizes n) r
     refuses-first r (unequal e u) = rw e (inl (require-false _ 1 0 (ne-eqb (length addresses) (length sizes) u)))
     refuses-first r (at-global i number e l b h w) =
-        rw e (inr (require-true _ 1 0 (eq-eqb _ _ l), inl (fault-from l i 0 i number (omega arith) b (λ j a c. h j c) w)))
+        rw e (inr (require-true _ 1 0 (eq-eqb _ _ l), inl (fault-list l i number b h w)))
     refuses-first r (small e l h s) =
         rw e (inr (
           require-true _ 1 0 (eq-eqb _ _ l),
-          inr (fits-from l (length addresses) 0 (omega arith) (λ j a b. h j b), inl (require-false _ 6 0 (lt-leb (length (tableOf addresses sizes)) n s))),
+          inr (fits-list l h, inl (require-false _ 6 0 (lt-leb (length (tableOf addresses sizes)) n s))),
         ))
 
     first-refuses : (r : Refusal) → First (writerChecks addresses sizes n) r → Refuses addresses sizes n r
@@ -244,12 +276,12 @@ module _ (addresses sizes : List ℕ) where
         unequal (q .1) (eqb-false (length addresses) (length sizes) (q .0))
     first-refuses r (inr (l, inl e)) =
         let m = eqb-true (length addresses) (length sizes) (require-held _ 1 0 l) in
-        let z = from-fault m (length addresses) 0 r (omega arith) e in
-        at-global (z .at) (z .fault .number) (z .fault .numbered) m (z .below) (λ j b. z .before j (omega arith) b) (z .fault .wrong)
+        let z = list-fault m r e in
+        at-global (z .index) (z .number) (z .numbered) m (z .below) (z .before) (z .wrong)
     first-refuses r (inr (l, inr (c, inl e))) =
         let m = eqb-true (length addresses) (length sizes) (require-held _ 1 0 l) in
         let q = require-stopped (leb (length (tableOf addresses sizes)) n) 6 0 e in
-        small (q .1) m (λ j b. from-fits m (length addresses) 0 (omega arith) c j (omega arith) b) (leb-false (length (tableOf addresses sizes)) n (q .0))
+        small (q .1) m (list-fits m c) (leb-false (length (tableOf addresses sizes)) n (q .0))
     first-refuses r (inr (l, inr (c, inr (s, z)))) = absurd z
 
     refuses-numbered : (r : Refusal) → Refuses addresses sizes n r → listed writerNumbers (r .number) ≡ true

@@ -4,6 +4,7 @@ pub mod Lending
 pub mod Table
 pub mod Steps
 pub mod Writer
+pub mod Picker
 pub mod Demands
 pub mod Calls
 pub mod Promises

@@ -6,6 +6,7 @@ use Rattle.rules.specs.declared.Cursor.{Cursor}
 use Rattle.demands.specs.Table.{Table}
 use Rattle.demands.specs.Steps.{Steps}
 use Rattle.demands.specs.Writer.{WriterClaim}
+use Rattle.demands.specs.Picker.{PickerClaim}
 use Rattle.demands.specs.Demands.{Claim}
 use Rattle.demands.specs.Calls.{CallClaim}
 
@@ -18,5 +19,7 @@ pub record Promises : Type 0 where
   pub steps : (index : ℕ) (table : List ℕ) (c : Cursor) → Steps index table c
   -- the writer of descriptor tables
   pub writer : WriterClaim
+  -- the picker of tags
+  pub picker : PickerClaim
   -- the table of refusals, a row a number
   pub refusals : (f : List ℕ) → Table f

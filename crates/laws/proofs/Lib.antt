@@ -8,6 +8,7 @@ pub mod Steps
 pub mod Globals
 pub mod Encoding
 pub mod Listed
+pub mod Picks
 pub mod Items
 pub mod Places
 pub mod Packed
