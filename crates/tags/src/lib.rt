@@ -13,9 +13,7 @@ use rules::GRANULE;
 use rules::Module;
 use rules::Reading;
 use rules::Refusal;
-
-// The tag of a granule that no global has.
-const UNTAGGED: u8 = 0;
+use rules::UNTAGGED;
 
 // The least and the largest choice.
 const CHOICE_LEAST: u8 = 1;
