@@ -19,6 +19,19 @@ use Rattle.demands.specs.Writer.{WriteCall}
 use Rattle.writer.specs.Faults.{measured}
 use Rattle.writer.proofs.Laws.{measured-start}
 
+-- what was measured
+pub measured-good : (addresses sizes : List ℕ) (counted : Bool) (n : ℕ) → measured addresses sizes counted 0 0 0 ≡ good n
+    → (listCheck 0 0 addresses sizes ≡ good tt) × (n ≡ cond counted (length (tableOf addresses sizes)) 0)
+measured-good addresses sizes counted n e =
+    let p = andThen-good (listCheck 0 0 addresses sizes) _ (sym (measured-start addresses sizes counted) ∙ e) in
+    let q = p .rest in
+    (p .here, cc)
+
+pub measured-bad : (addresses sizes : List ℕ) (counted : Bool) (r : Refusal) → measured addresses sizes counted 0 0 0 ≡ bad r
+    → listCheck 0 0 addresses sizes ≡ bad r
+measured-bad addresses sizes counted r e =
+    andThen-bad (listCheck 0 0 addresses sizes) _ (sym (measured-start addresses sizes counted) ∙ e) (λ q. q) (λ _ _ s. good-bad s)
+
 module _ (addresses sizes lent : List ℕ) where
   -- 1
   pub call-unequal : (o : Outcome ℕ) → (length addresses ≡ length sizes → ⊥) → o ≡ refuse 1 0 → WriteCall addresses sizes lent lent o
@@ -34,8 +47,7 @@ module _ (addresses sizes lent : List ℕ) where
     unfolding writtenOf
     call-measured counted o r e m =
         let t = eq-eqb (length addresses) (length sizes) l in
-        let h = sym (measured-start addresses sizes counted) ∙ (sym m ∙ e) in
-        let c = andThen-bad (listCheck 0 0 addresses sizes) _ h (λ q. q) (λ _ _ s. good-bad s) in
+        let c = measured-bad addresses sizes counted r (sym m ∙ e) in
         record { answered = rw (e, t, c); written = rw (t, c) }
 
     -- 6
@@ -54,14 +66,6 @@ module _ (addresses sizes lent : List ℕ) where
         let t = eq-eqb (length addresses) (length sizes) l in
         let f = le-leb (length (tableOf addresses sizes)) (length lent) s in
         record { answered = rw (e, t, c, f); written = rw (w, t, c, f) }
-
--- what was measured
-pub measured-good : (addresses sizes : List ℕ) (counted : Bool) (n : ℕ) → measured addresses sizes counted 0 0 0 ≡ good n
-    → (listCheck 0 0 addresses sizes ≡ good tt) × (n ≡ cond counted (length (tableOf addresses sizes)) 0)
-measured-good addresses sizes counted n e =
-    let p = andThen-good (listCheck 0 0 addresses sizes) _ (sym (measured-start addresses sizes counted) ∙ e) in
-    let q = p .rest in
-    (p .here, cc)
 
 -- a buffer has room whatever the table's length
 abbrev pub ample : List ℕ → List ℕ → Bool

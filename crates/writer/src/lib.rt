@@ -7,10 +7,11 @@ ghost use Rattle.rules.specs.Outcome.{good, refuse};
 ghost use Rattle.rules.specs.Limits.{addressLimit, granule};
 ghost use Rattle.rules.specs.Memory.{put};
 ghost use Rattle.rules.specs.Writer.{uleb, descriptorOf, tableOf, listCheck};
-ghost use Rattle.rules.specs.Answers.{ofTable};
+ghost use Rattle.rules.specs.Answers.{ofChecked, ofTable};
 ghost use Rattle.demands.specs.Writer.{WriteCall};
 ghost use Rattle.writer.specs.Faults.{Judged, measured};
 use rules::ADDRESS_LIMIT;
+use rules::Checked;
 use rules::GRANULE;
 use rules::RADIX;
 use rules::Refusal;
@@ -45,7 +46,8 @@ fn refused(number: u8, index: usize) -> TableAnswer
     TableAnswer::Refused(r)
 }
 
-fn element(list: &[u64], i: usize) -> u64
+// A number of a list.
+pub fn element(list: &[u64], i: usize) -> u64
     requires { ⌜ i < length (now list) ⌝ }
     ensures { λ r. ⌜ r ≡ getD (now (list .entry)) i 0 ⌝ }
 {
@@ -125,6 +127,18 @@ fn measure(addresses: &[u64], sizes: &[u64], counted: bool) -> TableAnswer
         end = address + size;
     }
     TableAnswer::Written(total)
+}
+
+// The checks of each global alone, for others that take such lists.
+pub fn check_globals(addresses: &[u64], sizes: &[u64]) -> Checked
+    requires { ⌜ length (now addresses) ≡ length (now sizes) ⌝ }
+    ensures { λ r. ⌜ ofChecked r ≡ listCheck 0 0 (now (addresses .entry)) (now (sizes .entry)) ⌝ }
+{
+    let answer = measure(addresses, sizes, false);
+    match answer {
+        TableAnswer::Written(_) => Checked::Passed,
+        TableAnswer::Refused(r) => Checked::Refused(r),
+    }
 }
 
 // A number from a position on; the position after it.
