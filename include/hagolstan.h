@@ -5,13 +5,14 @@
  * length 0 is not read or written and may be null; a null pointer with another length is an error of the
  * caller. The calls may be made from several threads at once on buffers that are not shared. Examine, the facts and the
  * load need at most 258 KiB of stack: 6 KiB where the places of the relocations rise or lie within 64 KiB, 18 KiB where
- * they lie within 1 MiB.
+ * they lie within 1 MiB. The other calls need less than 1 KiB.
  *
  * The answer of examine and of the load is one 64-bit number:
  *   taken:    globals * 256
  *   refused:  position * 256 + refusal number (1 to 16)
- * so the low byte of an answer is 0 exactly when the call was taken. The answer of the writer of tables has the
- * same form, with the table's length for the globals and refusals of its own.
+ * so the low byte of an answer is 0 exactly when the call was taken. The answers of the writer of tables and of the
+ * picker of tags have the same form, with refusals of their own and the index of a global for the position; where the
+ * writer takes its lists, the table's length stands for the globals.
  *
  * The order of the checks is 1 to 7, 15, then 8, 16 and 9, which are one walk over the descriptors, then 10 and 11,
  * one over the relocations, then 12 to 14. At each descriptor 8 comes first (it is cut short, or a number of it is too
@@ -68,7 +69,8 @@ uint64_t hagolstan_facts(const uint8_t *file, size_t file_length);
  *   memory    lent memory: offset x stands for the file's address x; a multiple of 16 bytes, at least the end
  *             of the last PT_LOAD, at most HAGOLSTAN_MEMORY_LIMIT
  *   plane     lent tag plane: one byte for each 16 bytes of memory
- *   choices   one tag from 1 to 15 for each global, in the order of the descriptor table
+ *   choices   one tag from 1 to 15 for each global, in the order of the descriptor table, and not that of the one
+ *             before where the two abut; hagolstan_pick_tags picks such a list
  * Taken: memory holds segments, zeros and relocated words, plane holds each global's choice and 0 elsewhere;
  * what the buffers held before has no influence. Refused: memory and plane are byte for byte as lent. */
 uint64_t hagolstan_load(const uint8_t *file, size_t file_length, uint64_t bias,
@@ -107,6 +109,30 @@ uint64_t hagolstan_step(const uint8_t *table, size_t table_length, uint64_t posi
 uint64_t hagolstan_write_table(const uint64_t *addresses, size_t addresses_length,
                                const uint64_t *sizes, size_t sizes_length,
                                uint8_t *buffer, size_t buffer_length);
+
+/* Picks a tag for each global of a list: what the load takes as choices. For a module that lists these globals, its
+ * refusal 14 cannot follow.
+ *   addresses   where each global starts in the module, ascending
+ *   sizes       the bytes of each global, in the same order; both lists as for hagolstan_write_table
+ *   random      a byte for each global, fresh from the system for each load: who knows them knows the tags
+ *   excluded    the tags not to pick, by the mask of __arm_mte_create_random_tag (source document 002): bit t set
+ *               excludes tag t. Bit 0 counts as set always
+ *   choices     lent for the tags, a byte for each global
+ * Allowed are the tags 1 to 15 that are not excluded. A global abuts the one before where it starts at that one's end.
+ * Taken: the answer is the number of globals * 256. Each choice is the first tag, from the random byte modulo 16 up
+ * and wrapping at 16, that is allowed and, where the global abuts the one before, is not that one's.
+ * Refused: the answer is index * 256 + refusal number, and the choices are byte for byte as lent.
+ *   7        addresses, sizes, random bytes and choices are not all equally many; index 0
+ * then at each global in turn, with its index:
+ *   2 to 5   as hagolstan_write_table refuses it
+ * and after all of them:
+ *   8        no list of allowed tags has different ones wherever two globals abut; index 0
+ * So at least two tags must be allowed where two globals abut, one where none do, and none for an empty list, which is
+ * taken whatever the mask. The number of globals has no limit here; a module may have HAGOLSTAN_GLOBAL_LIMIT. */
+uint64_t hagolstan_pick_tags(const uint64_t *addresses, size_t addresses_length,
+                             const uint64_t *sizes, size_t sizes_length,
+                             const uint8_t *random, size_t random_length, uint16_t excluded,
+                             uint8_t *choices, size_t choices_length);
 
 /* An answer taken apart. */
 #define HAGOLSTAN_REFUSAL(answer) ((unsigned)((answer) & 0xff))      /* 0: taken */

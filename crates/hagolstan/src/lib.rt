@@ -4,7 +4,7 @@ ghost use Rattle.rules.specs.Examine.{examinedOf};
 ghost use Rattle.rules.specs.Descriptors.{stepAt};
 ghost use Rattle.demands.specs.Calls.{buffers};
 ghost use Rattle.packing.specs.Packed.{packed, packedFacts, stepNumber, stepWords};
-ghost use Rattle.packing.specs.Exported.{Exported, TableExported};
+ghost use Rattle.packing.specs.Exported.{Exported, TableExported, PicksExported};
 use rules::Answer;
 
 // Examines a file: position × 256 + refusal number, or globals × 256.
@@ -66,4 +66,18 @@ pub extern "C" fn hagolstan_write_table(addresses: &[u64], sizes: &[u64], buffer
     ensures { λ v. ⌜ TableExported (now (addresses .entry)) (now (sizes .entry)) (now (buffer .entry)) (now (buffer .exit)) v ⌝ }
 {
     packing::table_number(addresses, sizes, buffer)
+}
+
+// Picks a tag for each global: how many there are × 256, or index × 256 + refusal number with the choices as lent.
+#[no_mangle]
+pub extern "C" fn hagolstan_pick_tags(
+    addresses: &[u64],
+    sizes: &[u64],
+    random: &[u8],
+    excluded: u16,
+    choices: &mut [u8],
+) -> u64
+    ensures { λ v. ⌜ PicksExported (now (addresses .entry)) (now (sizes .entry)) (now (random .entry)) excluded (now (choices .entry)) (now (choices .exit)) v ⌝ }
+{
+    packed_picks::picks_number(addresses, sizes, random, excluded, choices)
 }

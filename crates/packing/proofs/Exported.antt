@@ -24,8 +24,10 @@ use Rattle.demands.proofs.Refusals.{examined-facts}
 use Rattle.demands.proofs.Calls.{calls}
 use Rattle.demands.specs.Writer.{writerNumbers, Refuses, WriteCall, WriteKept}
 use Rattle.demands.proofs.Writer.{writes, kept}
-use Rattle.packing.specs.Packed.{packed, packedRefusal, packedLength, modeNumber, switchNumber, factsNumber}
-use Rattle.packing.specs.Exported.{Told, ExportClaim, TableTold, TableClaim, FactsTold, FactsClaim}
+use Rattle.demands.specs.Picker.{pickerNumbers, PickRefuses, PickCall, PickKept}
+use Rattle.demands.proofs.Picker as picker
+use Rattle.packing.specs.Packed.{packed, packedRefusal, packedCount, modeNumber, switchNumber, factsNumber}
+use Rattle.packing.specs.Exported.{Told, ExportClaim, TableTold, TableClaim, PicksTold, PicksClaim, FactsTold, FactsClaim}
 
 -- every number of a list is from 1 to 255
 abbrev lowBytes : List ℕ → Bool
@@ -100,7 +102,7 @@ pub table-exported : TableClaim
 table-exported addresses sizes lent left number x =
     told-of (x .answer) (x .packs) (kept addresses sizes lent left (x .answer) (x .call))
   where
-    told-of : (answer : Outcome ℕ) → number ≡ packedLength answer → WriteKept addresses sizes lent left answer
+    told-of : (answer : Outcome ℕ) → number ≡ packedCount answer → WriteKept addresses sizes lent left answer
         → TableTold addresses sizes lent left number
     told-of (good n) e k =
         let t = k .taken n refl in
@@ -118,6 +120,50 @@ table-exported addresses sizes lent left number x =
           taken = λ q. absurd (p .0 q);
           table-left = λ q. absurd (p .0 q);
           refused = λ _. subst (λ (r : Refusal). Refuses addresses sizes (length lent) r × (left ≡ lent)) (sym (p .1)) d;
+        }
+
+-- ---- the picker
+
+-- the answers fit
+module _ (addresses sizes random : List ℕ) (x : ℕ) (lent left : List ℕ) (answer : Outcome ℕ)
+    (c : PickCall addresses sizes random x lent left answer) where
+  pub globals-low : (n : ℕ) → answer ≡ good n → n ≤ addressLimit
+  globals-low n e =
+      let t = picker.kept addresses sizes random x lent left answer c .taken n e in
+      let few = picker.picks addresses sizes random x (length lent) .few (t .0) in
+      let same = t .1 in
+      omega arith
+
+  pub fault-low : (r : Refusal) → answer ≡ bad r → r .position ≤ addressLimit
+  fault-low r e =
+      let d = picker.kept addresses sizes random x lent left answer c .refused r e in
+      let i = picker.picks addresses sizes random x (length lent) .indexed r (d .0) in
+      omega arith
+
+pub picks-exported : PicksClaim
+picks-exported addresses sizes random x lent left number e =
+    told-of (e .answer) (e .packs) (picker.kept addresses sizes random x lent left (e .answer) (e .call))
+  where
+    told-of : (answer : Outcome ℕ) → number ≡ packedCount answer → PickKept addresses sizes random x lent left answer
+        → PicksTold addresses sizes random x lent left number
+    told-of (good n) e k =
+        let t = k .taken n refl in
+        let z : number / 256 ≡ n = omega arith in
+        record {
+          taken = λ _. (t .0, z ∙ t .1);
+          meets = λ _. k .meets n refl;
+          picked = λ _. k .picked n refl;
+          refused = λ q. absurd (q (omega arith));
+        }
+    told-of (bad r) e k =
+        let d = k .refused r refl in
+        let n = listed-low pickerNumbers (r .number) refl (picker.picks addresses sizes random x (length lent) .numbered r (d .0)) in
+        let p = parts r number e n in
+        record {
+          taken = λ q. absurd (p .0 q);
+          meets = λ q. absurd (p .0 q);
+          picked = λ q. absurd (p .0 q);
+          refused = λ _. subst (λ (r : Refusal). PickRefuses addresses sizes random x (length lent) r × (left ≡ lent)) (sym (p .1)) d;
         }
 
 -- ---- the facts

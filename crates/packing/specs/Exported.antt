@@ -11,7 +11,8 @@ use Rattle.rules.specs.declared.Refusal.{Refusal}
 use Rattle.rules.specs.declared.Facts.{Facts}
 use Rattle.demands.specs.Calls.{Buffers, Call, Declined, Accepted}
 use Rattle.demands.specs.Writer.{Takes, Refuses, WriteCall}
-use Rattle.packing.specs.Packed.{packed, packedLength, modeNumber, switchNumber, packedFacts}
+use Rattle.demands.specs.Picker.{Meets, Picked, PickTakes, PickRefuses, PickCall}
+use Rattle.packing.specs.Packed.{packed, packedCount, modeNumber, switchNumber, packedFacts}
 
 -- what the contract of `hagolstan_load` says: a call of the load, and its answer as one number
 pub record Exported (f : List ℕ) (bias : ℕ) (choices : List ℕ) (lent left : Buffers) (number : ℕ) : Type 0 where
@@ -40,7 +41,7 @@ ExportClaim = (f : List ℕ) (bias : ℕ) (choices : List ℕ) (lent left : Buff
 pub record TableExported (addresses sizes lent left : List ℕ) (number : ℕ) : Type 0 where
   pub answer : Outcome ℕ
   pub call : WriteCall addresses sizes lent left answer
-  pub packs : number ≡ packedLength answer
+  pub packs : number ≡ packedCount answer
 
 -- the low byte is 0 exactly where the table was written, and the rest is its length or the index; what the buffer then holds
 pub record TableTold (addresses sizes lent left : List ℕ) (number : ℕ) : Type 0 where
@@ -51,6 +52,26 @@ pub record TableTold (addresses sizes lent left : List ℕ) (number : ℕ) : Typ
 abbrev pub TableClaim : Type 0
 TableClaim = (addresses sizes lent left : List ℕ) (number : ℕ)
     → TableExported addresses sizes lent left number → TableTold addresses sizes lent left number
+
+-- ---- the picker
+
+-- what the contract of `hagolstan_pick_tags` says: a call of the picker, and its answer as one number
+pub record PicksExported (addresses sizes random : List ℕ) (excluded : ℕ) (lent left : List ℕ) (number : ℕ) : Type 0 where
+  pub answer : Outcome ℕ
+  pub call : PickCall addresses sizes random excluded lent left answer
+  pub packs : number ≡ packedCount answer
+
+-- the low byte is 0 exactly where tags were picked, and the rest is the number of globals or the index; what the choices then are
+pub record PicksTold (addresses sizes random : List ℕ) (excluded : ℕ) (lent left : List ℕ) (number : ℕ) : Type 0 where
+  pub taken : number % 256 ≡ 0 → PickTakes addresses sizes random excluded (length lent) × (number / 256 ≡ length addresses)
+  pub meets : number % 256 ≡ 0 → Meets addresses sizes excluded left
+  pub picked : number % 256 ≡ 0 → Picked addresses sizes random excluded left
+  pub refused : (number % 256 ≡ 0 → ⊥)
+      → PickRefuses addresses sizes random excluded (length lent) (refusal (number % 256) (number / 256)) × (left ≡ lent)
+
+abbrev pub PicksClaim : Type 0
+PicksClaim = (addresses sizes random : List ℕ) (excluded : ℕ) (lent left : List ℕ) (number : ℕ)
+    → PicksExported addresses sizes random excluded lent left number → PicksTold addresses sizes random excluded lent left number
 
 -- ---- the facts
 

@@ -25,10 +25,10 @@ abbrev pub packed : Outcome Facts → ℕ
 packed (good a) = a .globals * 256
 packed (bad r) = packedRefusal r
 
--- or the bytes of a table × 256
-abbrev pub packedLength : Outcome ℕ → ℕ
-packedLength (good n) = n * 256
-packedLength (bad r) = packedRefusal r
+-- or a count × 256: the bytes of a table, or the globals that got a tag
+abbrev pub packedCount : Outcome ℕ → ℕ
+packedCount (good n) = n * 256
+packedCount (bad r) = packedRefusal r
 
 -- the mode: 0 absent, 1 synchronous, 2 asynchronous
 abbrev pub modeNumber : Mode → ℕ

@@ -4,7 +4,7 @@ use mathlib.Core.Path.{sym, ap, _∙_}
 use native.Mathlib.Omega.{arith}
 use borrow.Author.Needs.{needs}
 use Rattle.rules.specs.Answers.{ofTable}
-use Rattle.packing.specs.Packed.{packedLength}
+use Rattle.packing.specs.Packed.{packedCount}
 use Rattle.packing.proofs.Exported.{length-low, index-low}
 use Rattle.packing.proofs.table_number.Statement.{statement}
 use Rattle.packing.proofs.table_number.Tie as tie
@@ -33,7 +33,7 @@ returns-2 : tie.Need-returns-2
 returns-2 c =
     let Q = c .before .before in
     let W = Q .before .before .before .before in
-    let e = ap (λ v. packedLength (ofTable v)) (Q .answer2 .given .1) in
+    let e = ap (λ v. packedCount (ofTable v)) (Q .answer2 .given .1) in
     record { answer = _; call = W .write-table .ensures; packs = c .pack-refusal .ensures ∙ sym e }
 
 pub table-number-spec : {M : Type 1} → statement M
