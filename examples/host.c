@@ -1,18 +1,21 @@
 /* A C host: loads a module with memory tags and shows what the loader did.
  *
  *     cc -std=c99 -Iinclude examples/host.c target/staticlib/libhagolstan.a -o target/host
- *     target/host MODULE [BIAS]
+ *     target/host MODULE [BIAS [EXCLUDED]]
  *
- * Without BIAS it takes one that fits the module. Ends with 0 when the module is taken, 1 when it is refused, 2 when it
- * cannot be read or BIAS is no number. */
+ * Without BIAS it takes one that fits the module. EXCLUDED is a mask of 16 bits: bit t set keeps tag t from being picked; 0
+ * without it. The tags are picked anew, at random, each time. Ends with 0 when the module is taken, 1 when it is refused or
+ * has no tags left to pick, 2 when it cannot be read, a word is no such number, or the system gives no random bytes. */
 #include <errno.h>
 #include <inttypes.h>
 #include <stdio.h>
 #include <stdlib.h>
+#include <sys/random.h>
 #include "hagolstan.h"
 
 static uint8_t file[HAGOLSTAN_FILE_LIMIT + 1], memory[HAGOLSTAN_MEMORY_LIMIT], plane[HAGOLSTAN_MEMORY_LIMIT / 16];
-static uint8_t choices[HAGOLSTAN_GLOBAL_LIMIT];
+static uint64_t addresses[HAGOLSTAN_GLOBAL_LIMIT], sizes[HAGOLSTAN_GLOBAL_LIMIT];
+static uint8_t drawn[HAGOLSTAN_GLOBAL_LIMIT], choices[HAGOLSTAN_GLOBAL_LIMIT];
 
 /* What each refusal means, and what its position counts ("": nothing). */
 static const struct {
@@ -73,9 +76,14 @@ static uint64_t number(const uint8_t *bytes, size_t count)
     return value;
 }
 
+/* The program headers of a file that was examined and taken are inside it, and its PT_LOADs rise. */
+static const uint8_t *program_header(uint64_t index)
+{
+    return index < number(file + 56, 2) ? file + number(file + 32, 8) + 56 * index : NULL;
+}
+
 /* What a module asks of its host: the memory up to the end of its last PT_LOAD, in whole granules, and what the bias must
- * be a multiple of: 4,096 and the largest align of a PT_LOAD, powers of two both. The program headers of a file that
- * was examined and taken are inside it, and its PT_LOADs rise. */
+ * be a multiple of: 4,096 and the largest align of a PT_LOAD, powers of two both. */
 struct needs {
     size_t length;
     uint64_t unit;
@@ -84,8 +92,8 @@ struct needs {
 static struct needs needs_of_module(void)
 {
     struct needs needs = {0, 4096};
-    const uint8_t *header = file + number(file + 32, 8);
-    for (uint64_t left = number(file + 56, 2); left > 0; left--, header += 56) {
+    const uint8_t *header;
+    for (uint64_t i = 0; (header = program_header(i)); i++) {
         if (number(header, 4) != 1)
             continue;
         needs.length = (size_t)(number(header + 16, 8) + number(header + 40, 8) + 15) / 16 * 16;
@@ -93,6 +101,60 @@ static struct needs needs_of_module(void)
             needs.unit = number(header + 48, 8);
     }
     return needs;
+}
+
+/* The bytes of the file that are loaded at an address; NULL where there are none. */
+static const uint8_t *at_address(uint64_t address)
+{
+    const uint8_t *header;
+    for (uint64_t i = 0; (header = program_header(i)); i++) {
+        uint64_t start = number(header + 16, 8);
+        if (number(header, 4) == 1 && start <= address && address - start < number(header + 32, 8))
+            return file + number(header + 8, 8) + (address - start);
+    }
+    return NULL;
+}
+
+/* The value of a dynamic entry, 0 where it is absent. A file that was taken has one PT_DYNAMIC, with a DT_NULL in it. */
+static uint64_t dynamic_value(uint64_t tag)
+{
+    uint64_t i = 0;
+    while (number(program_header(i), 4) != 2)
+        i++;
+    const uint8_t *entry = at_address(number(program_header(i) + 16, 8));
+    while (number(entry, 8) != 0 && number(entry, 8) != tag)
+        entry += 16;
+    return number(entry, 8) ? number(entry + 8, 8) : 0;
+}
+
+/* Lists the globals of the descriptor table: their addresses in the module and their bytes. A table of no bytes may be
+ * anywhere; any other that was taken is in the file, has no bad descriptor and no more globals than the limit. */
+static size_t list_globals(void)
+{
+    const uint8_t *table = at_address(dynamic_value(0x7000000d)); /* DT_AARCH64_MEMTAG_GLOBALS */
+    size_t length = (size_t)dynamic_value(0x7000000f);            /* DT_AARCH64_MEMTAG_GLOBALSSZ */
+    uint8_t step[32] = {0}; /* start, granules, next position, end */
+    size_t count = 0;
+    while (hagolstan_step(table, length, number(step + 16, 8), number(step + 24, 8), count, step, sizeof step) == 1) {
+        addresses[count] = number(step, 8);
+        sizes[count++] = 16 * number(step + 8, 8);
+    }
+    return count;
+}
+
+/* Random bytes from the system, which may give fewer at once than it was asked for. */
+static int draw(uint8_t *bytes, size_t count)
+{
+    while (count > 0) {
+        ssize_t got = getrandom(bytes, count, 0);
+        if (got < 0 && errno != EINTR)
+            return 0;
+        if (got > 0) {
+            bytes += got;
+            count -= (size_t)got;
+        }
+    }
+    return 1;
 }
 
 /* Shows the words that point into the module. */
@@ -105,53 +167,41 @@ static void show_pointers(uint64_t bias, size_t length)
     }
 }
 
-/* A whole number below 2^64, decimal or 0x and hexadecimal. */
-static int read_bias(const char *word, uint64_t *bias)
+/* A whole number up to a highest, decimal or 0x and hexadecimal. */
+static int read_number(const char *word, uint64_t highest, uint64_t *value)
 {
     char *end;
     errno = 0;
-    *bias = strtoull(word, &end, 0);
-    return '0' <= *word && *word <= '9' && !*end && !errno;
+    *value = strtoull(word, &end, 0);
+    return '0' <= *word && *word <= '9' && !*end && !errno && *value <= highest;
 }
 
-int main(int count, char **words)
+static int read_file(const char *name, size_t *length)
 {
-    uint64_t bias = 0;
-    if (count < 2 || count > 3 || (count == 3 && !read_bias(words[2], &bias))) {
-        fprintf(stderr, "usage: host MODULE [BIAS]\n");
-        return 2;
-    }
-    FILE *in = fopen(words[1], "rb");
+    FILE *in = fopen(name, "rb");
     if (!in) {
-        perror(words[1]);
-        return 2;
+        perror(name);
+        return 0;
     }
-    size_t length = fread(file, 1, sizeof file, in);
+    *length = fread(file, 1, sizeof file, in);
     int failed = ferror(in);
     fclose(in);
-    if (failed) {
-        fprintf(stderr, "%s: cannot be read\n", words[1]);
-        return 2;
-    }
+    if (failed)
+        fprintf(stderr, "%s: cannot be read\n", name);
+    return !failed;
+}
 
-    uint64_t answer = hagolstan_examine(file, length);
-    if (HAGOLSTAN_REFUSAL(answer))
-        return refused(answer);
-    uint64_t facts = hagolstan_facts(file, length);
-    show_facts(facts);
-
-    /* A host in the field draws the choices at random. */
-    size_t globals = HAGOLSTAN_GLOBALS(facts);
-    for (size_t i = 0; i < globals; i++)
-        choices[i] = (uint8_t)(1 + 7 * i % 15);
-
+/* Loads the module with the choices, and shows it. */
+static int load(size_t length, const uint64_t *given, size_t globals)
+{
     /* 0x40000000, or the next multiple of a larger unit; 0 where that is too high. */
     struct needs needs = needs_of_module();
     uint64_t highest = ((UINT64_C(1) << 48) - needs.length) / needs.unit * needs.unit;
-    if (count == 2)
-        bias = needs.unit <= 0x40000000 ? 0x40000000 : needs.unit <= highest ? needs.unit : 0;
+    uint64_t bias = needs.unit <= 0x40000000 ? 0x40000000 : needs.unit <= highest ? needs.unit : 0;
+    if (given)
+        bias = *given;
 
-    answer = hagolstan_load(file, length, bias, memory, needs.length, plane, needs.length / 16, choices, globals);
+    uint64_t answer = hagolstan_load(file, length, bias, memory, needs.length, plane, needs.length / 16, choices, globals);
     if (HAGOLSTAN_REFUSAL(answer)) {
         refused(answer);
         if (HAGOLSTAN_REFUSAL(answer) == 12)
@@ -161,4 +211,35 @@ int main(int count, char **words)
     show_globals(bias, needs.length / 16);
     show_pointers(bias, needs.length);
     return 0;
+}
+
+int main(int count, char **words)
+{
+    uint64_t bias, excluded = 0;
+    if (count < 2 || count > 4 || (count > 2 && !read_number(words[2], UINT64_MAX, &bias)) ||
+        (count > 3 && !read_number(words[3], UINT16_MAX, &excluded))) {
+        fprintf(stderr, "usage: host MODULE [BIAS [EXCLUDED]]\n");
+        return 2;
+    }
+    size_t length;
+    if (!read_file(words[1], &length))
+        return 2;
+
+    uint64_t answer = hagolstan_examine(file, length);
+    if (HAGOLSTAN_REFUSAL(answer))
+        return refused(answer);
+    show_facts(hagolstan_facts(file, length));
+
+    size_t globals = list_globals();
+    if (!draw(drawn, globals)) {
+        perror("no random bytes");
+        return 2;
+    }
+    /* The globals of a module that was taken are never refused by themselves. */
+    answer = hagolstan_pick_tags(addresses, globals, sizes, globals, drawn, globals, (uint16_t)excluded, choices, globals);
+    if (HAGOLSTAN_REFUSAL(answer)) {
+        printf("no tags: fewer are left than the globals need\n");
+        return 1;
+    }
+    return load(length, count > 2 ? &bias : NULL, globals);
 }
