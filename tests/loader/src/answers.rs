@@ -1,7 +1,7 @@
 //! Answers in the packed form of the C interface, and what two loaders are compared by.
 
 use crate::rules::{Right, Rules};
-use crate::{examine_by, load_by, step_by, write_table_by};
+use crate::{examine_by, load_by, pick_tags_by, step_by, write_table_by};
 use crate::{Facts, Mode, Refusal, Step, Switch};
 use std::marker::PhantomData;
 
@@ -13,10 +13,10 @@ pub fn packed(answer: &Result<Facts, Refusal>) -> u64 {
     }
 }
 
-/// index × 256 + refusal number, or the table's length × 256.
-pub fn packed_length(answer: &Result<usize, Refusal>) -> u64 {
+/// index × 256 + refusal number, or the table's length or the number of globals × 256.
+pub fn packed_count(answer: &Result<usize, Refusal>) -> u64 {
     match answer {
-        Ok(length) => *length as u64 * 256,
+        Ok(count) => *count as u64 * 256,
         Err(refusal) => refusal.position * 256 + u64::from(refusal.number),
     }
 }
@@ -120,6 +120,36 @@ impl Written {
     }
 }
 
+/// The arguments of one pick.
+#[derive(Clone, Debug, PartialEq, Eq)]
+pub struct Picking {
+    pub addresses: Vec<u64>,
+    pub sizes: Vec<u64>,
+    pub random: Vec<u8>,
+    pub excluded: u16,
+    /// The choices as lent.
+    pub choices: Vec<u8>,
+}
+
+/// All that a pick gives.
+#[derive(Clone, Debug, PartialEq, Eq)]
+pub struct Picked {
+    pub answer: u64,
+    pub choices: Vec<u8>,
+    /// A byte beside the lent choices was changed.
+    pub strayed: bool,
+}
+
+impl Picked {
+    pub fn number(&self) -> u8 {
+        self.answer as u8
+    }
+
+    pub fn index(&self) -> u64 {
+        self.answer >> 8
+    }
+}
+
 /// What a lent buffer holds before a call: byte i is i × factor + first, so that 256 bytes come again
 /// and again.
 #[derive(Clone, Copy)]
@@ -158,9 +188,17 @@ const BESIDE: u8 = 0xc9;
 
 impl Lent {
     fn new(pattern: Pattern, length: usize) -> Lent {
+        Lent::with(length, |all| pattern.extend(all, length))
+    }
+
+    fn of(bytes: &[u8]) -> Lent {
+        Lent::with(bytes.len(), |all| all.extend(bytes))
+    }
+
+    fn with(length: usize, extend: impl FnOnce(&mut Vec<u8>)) -> Lent {
         let mut all = Vec::with_capacity(length + 2 * MARGIN);
         all.extend([BESIDE; MARGIN]);
-        pattern.extend(&mut all, length);
+        extend(&mut all);
         all.extend([BESIDE; MARGIN]);
         Lent(all)
     }
@@ -199,6 +237,14 @@ pub trait Loader {
     /// None where the loader has no call for it.
     fn step(&self, table: &[u8], position: u64, last_end: u64, index: u64) -> Option<StepAnswer>;
     fn write_table(&self, addresses: &[u64], sizes: &[u64], buffer: &mut [u8]) -> u64;
+    fn pick_tags(
+        &self,
+        addresses: &[u64],
+        sizes: &[u64],
+        random: &[u8],
+        excluded: u16,
+        choices: &mut [u8],
+    ) -> u64;
 
     fn outcome(&self, call: &Call) -> Outcome {
         let mut memory = Lent::new(MEMORY, call.memory_length);
@@ -220,32 +266,40 @@ pub trait Loader {
         let answer = self.write_table(&list.addresses, &list.sizes, buffer.bytes());
         Written { answer, strayed: buffer.strayed(), buffer: buffer.into_bytes() }
     }
+
+    fn picked(&self, pick: &Picking) -> Picked {
+        let Picking { addresses, sizes, random, excluded, choices } = pick;
+        let mut choices = Lent::of(choices);
+        let answer = self.pick_tags(addresses, sizes, random, *excluded, choices.bytes());
+        Picked { answer, strayed: choices.strayed(), choices: choices.into_bytes() }
+    }
 }
 
-/// The Rust loader under some rules.
-pub struct Under<R>(PhantomData<R>);
+/// The Rust loader under some rules of modules; of lists of globals, which are written and picked for,
+/// under the same or under others.
+pub struct Under<M, L = M>(PhantomData<(M, L)>);
 
-impl<R> Under<R> {
-    pub const fn new() -> Under<R> {
+impl<M, L> Under<M, L> {
+    pub const fn new() -> Under<M, L> {
         Under(PhantomData)
     }
 }
 
-impl<R> Default for Under<R> {
-    fn default() -> Under<R> {
+impl<M, L> Default for Under<M, L> {
+    fn default() -> Under<M, L> {
         Under::new()
     }
 }
 
 pub const RIGHT: Under<Right> = Under::new();
 
-impl<R: Rules> Loader for Under<R> {
+impl<M: Rules, L: Rules> Loader for Under<M, L> {
     fn examine(&self, file: &[u8]) -> u64 {
-        packed(&examine_by::<R>(file))
+        packed(&examine_by::<M>(file))
     }
 
     fn facts(&self, file: &[u8]) -> u64 {
-        packed_facts(&examine_by::<R>(file))
+        packed_facts(&examine_by::<M>(file))
     }
 
     fn load(
@@ -256,14 +310,25 @@ impl<R: Rules> Loader for Under<R> {
         plane: &mut [u8],
         choices: &[u8],
     ) -> u64 {
-        packed(&load_by::<R>(file, bias, memory, plane, choices))
+        packed(&load_by::<M>(file, bias, memory, plane, choices))
     }
 
     fn step(&self, table: &[u8], position: u64, last_end: u64, index: u64) -> Option<StepAnswer> {
-        Some(step_by::<R>(table, position, last_end, index))
+        Some(step_by::<M>(table, position, last_end, index))
     }
 
     fn write_table(&self, addresses: &[u64], sizes: &[u64], buffer: &mut [u8]) -> u64 {
-        packed_length(&write_table_by::<R>(addresses, sizes, buffer))
+        packed_count(&write_table_by::<L>(addresses, sizes, buffer))
+    }
+
+    fn pick_tags(
+        &self,
+        addresses: &[u64],
+        sizes: &[u64],
+        random: &[u8],
+        excluded: u16,
+        choices: &mut [u8],
+    ) -> u64 {
+        packed_count(&pick_tags_by::<L>(addresses, sizes, random, excluded, choices))
     }
 }

@@ -1,6 +1,6 @@
-//! The images and lists of the benchmark, and the timing of loaders side by side.
+//! The images, lists and picks of the benchmark, and the timing of loaders side by side.
 
-use crate::answers::{Call, Listing, Loader};
+use crate::answers::{Call, Listing, Loader, Picking};
 use crate::generate::module::uleb;
 use crate::random::Random;
 use crate::writer::ENOUGH;
@@ -281,6 +281,35 @@ pub fn mixed_globals(count: usize) -> Listing {
     listing((0..count).map(global))
 }
 
+/// A pick for a list, with random bytes; those of a shorter list are the first of them.
+pub(crate) fn picking(list: Listing, excluded: u16) -> Picking {
+    let count = list.addresses.len();
+    let random = Random::new(excluded.into()).bytes(count);
+    let Listing { addresses, sizes, .. } = list;
+    Picking { addresses, sizes, random, excluded, choices: vec![0; count] }
+}
+
+/// A mask that leaves three tags.
+pub const THREE_LEFT: u16 = 0xfbdd;
+
+/// What of a list for the picker abuts: nothing, all, or a half in random order.
+#[derive(Clone, Copy, PartialEq, Eq)]
+pub enum Abutting {
+    Nothing,
+    All,
+    Half,
+}
+
+/// Globals of up to 7 granules.
+pub fn picks_of(count: usize, abutting: Abutting, excluded: u16) -> Picking {
+    let mut r = Random::new(count as u64);
+    let global = |_| {
+        let abuts = abutting == Abutting::All || abutting == Abutting::Half && r.once_in(2);
+        (if abuts { 0 } else { r.from(1, 15) }, r.from(1, 7))
+    };
+    picking(listing((0..count).map(global)), excluded)
+}
+
 /// Best and median time.
 pub struct Times {
     pub best: Duration,
@@ -390,6 +419,32 @@ pub fn writes(list: &Listing, loaders: [&dyn Loader; 2], rounds: usize) -> [Time
         match &first {
             Some((a, b)) => assert!(*a == answer && *b == buffer),
             None => first = Some((answer, buffer.clone())),
+        }
+    }
+    taken.map(times)
+}
+
+/// Picks by two loaders in turn, each into cleared choices. Each pair has random bytes of its own: what a
+/// processor has learnt of the last ones is of no use.
+pub fn picks(pick: &Picking, loaders: [&dyn Loader; 2], rounds: usize) -> [Times; 2] {
+    let Picking { addresses, sizes, excluded, .. } = pick;
+    let (mut random, mut choices) = (pick.random.clone(), pick.choices.clone());
+    let mut r = Random::new(rounds as u64);
+    let mut taken = [Vec::new(), Vec::new()];
+    let mut first: Option<Vec<u8>> = None;
+    for round in 0..2 * rounds {
+        let which = (round + round / 2) % 2;
+        choices.fill(0);
+        let start = Instant::now();
+        let answer = loaders[which].pick_tags(addresses, sizes, &random, *excluded, &mut choices);
+        taken[which].push(start.elapsed());
+        assert_eq!(answer, addresses.len() as u64 * 256);
+        match first.take() {
+            Some(picked) => {
+                assert!(picked == choices);
+                random = r.bytes(random.len());
+            }
+            None => first = Some(choices.clone()),
         }
     }
     taken.map(times)

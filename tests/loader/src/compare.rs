@@ -1,8 +1,10 @@
 //! Two loaders side by side on the vectors and on generated cases.
 
-use crate::answers::{Call, Listing, Loader, Outcome, Written, RIGHT};
+use crate::answers::{Call, Listing, Loader, Outcome, Picked, Picking, Written, RIGHT};
 use crate::generate::list::write_case;
+use crate::generate::pick::pick_case;
 use crate::generate::{case, step_case};
+use crate::pick_by_words::judge;
 use crate::{faults, ffi, load_untagged, vectors, Step, Untagged};
 
 /// The loader to compare with, by name: archive, self, or fault: and a fault's name.
@@ -85,6 +87,24 @@ pub fn write_difference(plain: &Written, other: &Written) -> String {
     words.join("\n  ")
 }
 
+/// What differs between two picks, in words, and what either has against the words of the documents; empty
+/// where nothing does.
+pub fn pick_difference(pick: &Picking, plain: &Picked, other: &Picked) -> String {
+    let mut words = Vec::new();
+    if plain.answer != other.answer {
+        words.push(format!("answer: plain {}, other {}", shown(plain.answer), shown(other.answer)));
+    }
+    words.extend(bytes_differ("choices", "plain", &plain.choices, &other.choices));
+    if plain.strayed || other.strayed {
+        words.push("a byte beside the lent choices was changed".to_owned());
+    }
+    for (name, picked) in [("plain", plain), ("other", other)] {
+        let wrong = judge(pick, picked).err();
+        words.extend(wrong.map(|why| format!("by the words, {name}: {why}")));
+    }
+    words.join("\n  ")
+}
+
 /// Reads a table by a loader's steps: the listed globals one a step, then the end.
 pub fn reads_back(loader: &dyn Loader, table: &[u8], list: &Listing) -> Result<(), String> {
     let (mut at, mut last_end) = (0, 0);
@@ -149,9 +169,12 @@ pub struct Settings {
 pub struct Counts {
     pub answers: [u64; 17],
     pub write_answers: [u64; 7],
+    /// 1 and 6 are none of the picker's.
+    pub pick_answers: [u64; 9],
     pub calls: u64,
     pub steps: u64,
     pub writes: u64,
+    pub picks: u64,
     pub different: usize,
 }
 
@@ -213,6 +236,28 @@ impl Run<'_> {
         }
     }
 
+    /// A pick by both, and by the words of the documents.
+    fn pick(&mut self, name: &str, pick: &Picking) {
+        let (plain, other) = (RIGHT.picked(pick), self.other.picked(pick));
+        self.counts.pick_answers[usize::from(plain.number())] += 1;
+        self.counts.picks += 1;
+        let words = pick_difference(pick, &plain, &other);
+        if words.is_empty() {
+            return;
+        }
+        self.counts.different += 1;
+        println!("different: {name}\n  {words}");
+        let Picking { addresses, sizes, random, excluded, choices } = pick;
+        let lengths = [addresses.len(), sizes.len(), random.len(), choices.len()];
+        println!("  addresses, sizes, random bytes and choices: {lengths:?}");
+        if lengths.iter().all(|&length| length <= 40) {
+            let (random, choices) = (hex(random), hex(choices));
+            println!(
+                "  pick_tags({addresses:x?}, {sizes:x?}, {random}, {excluded:#06x}, {choices})"
+            );
+        }
+    }
+
     fn full(&self) -> bool {
         self.counts.different >= self.settings.stop
     }
@@ -247,6 +292,11 @@ pub fn run(settings: &Settings) -> Result<Counts, String> {
             run.write(&format!("write vector {i}, {}", v.name), &v.list);
         }
     }
+    for (i, v) in vectors::picks().iter().enumerate() {
+        if !run.full() {
+            run.pick(&format!("pick vector {i}, {}", v.name), &v.pick);
+        }
+    }
     for number in settings.first..settings.first + settings.cases {
         if run.full() {
             break;
@@ -258,6 +308,8 @@ pub fn run(settings: &Settings) -> Result<Counts, String> {
         run.step(&name, &s.table, s.position, s.last_end, s.index);
         let w = write_case(settings.seed, number);
         run.write(&format!("list {number} of seed {:#x}, {}", settings.seed, w.name), &w.list);
+        let p = pick_case(settings.seed, number);
+        run.pick(&format!("pick {number} of seed {:#x}, {}", settings.seed, p.name), &p.pick);
     }
     Ok(run.counts)
 }

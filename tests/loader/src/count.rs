@@ -1,10 +1,10 @@
-//! Instructions of a call by item: the images and lists to count on, the rows of the table, and what
-//! callgrind wrote for each call.
+//! Instructions of a call by item: the images, lists and picks to count on, the rows of the table, and
+//! what callgrind wrote for each call.
 //!
 //! A row is a sum of counts over calls that differ in one thing alone, so all else cancels.
 
-use crate::answers::{Call, Listing, Loader};
-use crate::bench::{assemble, call, dense, listing, Tables};
+use crate::answers::{Call, Listing, Loader, Picking};
+use crate::bench::{assemble, call, dense, listing, picking, Tables, THREE_LEFT};
 use crate::generate::module::descriptor;
 use crate::{LARGEST, PAGE};
 
@@ -105,6 +105,11 @@ fn list(shape: Shape) -> Listing {
     listing(std::iter::repeat_n(global(shape.form), shape.globals))
 }
 
+/// A pick for as many globals of three granules, each so many after the one before.
+fn pick(shape: Shape, distance: u64, excluded: u16) -> Picking {
+    picking(listing(std::iter::repeat_n((distance, 3), shape.globals)), excluded)
+}
+
 #[derive(Clone, Copy, PartialEq, Eq)]
 enum What {
     Examine,
@@ -112,6 +117,8 @@ enum What {
     /// A table write with a buffer that takes any table, or of the table's length.
     Write,
     WriteExact,
+    /// A pick by the granules before a global, and the mask.
+    Pick(u64, u16),
 }
 
 /// A sum of counts, by the number of items that it is the count of.
@@ -147,7 +154,7 @@ const MANY_LONG: usize = 480;
 const PASSED: usize = 8;
 
 fn rows() -> Vec<Row> {
-    use What::{Examine, Write, WriteExact};
+    use What::{Examine, Pick, Write, WriteExact};
     let mut rows = Vec::new();
     let mut row = |name: &str, items: usize, terms: Terms| {
         rows.push(Row { name: name.to_owned(), terms, items: items as i64 });
@@ -173,6 +180,13 @@ fn rows() -> Vec<Row> {
     }
     let name = "a descriptor of one byte: written, no byte to spare";
     row(name, MANY - FEW, more(WriteExact, small, large));
+
+    for (how, distance) in [("apart", 2), ("abutting", 0)] {
+        for (tags, excluded) in [("nothing excluded", 0), ("three tags left", THREE_LEFT)] {
+            let terms = more(Pick(distance, excluded), small, large);
+            row(&format!("a tag picked, globals {how}, {tags}"), MANY - FEW, terms);
+        }
+    }
 
     // The globals that the relocations point into are there whatever the number of relocations.
     let tables = |symbols, mixed, from, to| {
@@ -232,6 +246,7 @@ pub enum Counted<'a> {
     Examine(&'a Call),
     Load(&'a Call, &'a mut [u8], &'a mut [u8]),
     Write(&'a Listing, &'a mut [u8]),
+    Pick(&'a Picking, &'a mut [u8]),
 }
 
 /// The function that callgrind counts; it writes a profile each time it is left.
@@ -244,6 +259,10 @@ pub fn hagolstan_counted_call(loader: &dyn Loader, counted: Counted) -> u64 {
             loader.load(&call.file, call.bias, memory, plane, &call.choices)
         }
         Counted::Write(list, buffer) => loader.write_table(&list.addresses, &list.sizes, buffer),
+        Counted::Pick(pick, choices) => {
+            let Picking { addresses, sizes, random, excluded, .. } = pick;
+            loader.pick_tags(addresses, sizes, random, *excluded, choices)
+        }
     }
 }
 
@@ -272,6 +291,14 @@ fn written_by(loader: &dyn Loader, exact: bool, shape: Shape) -> Vec<u8> {
     buffer
 }
 
+/// The choices that a pick leaves.
+fn picked_by(loader: &dyn Loader, pick: &Picking) -> Vec<u8> {
+    let mut choices = vec![0xa5; pick.choices.len()];
+    let answer = hagolstan_counted_call(loader, Counted::Pick(pick, &mut choices));
+    assert_eq!(answer, pick.addresses.len() as u64 * 256);
+    choices
+}
+
 /// Makes every call of the table by both loaders in turn; the number of calls. Panics where an
 /// answer is not the expected one or the loaders leave different bytes.
 pub fn calls(loaders: [&dyn Loader; 2]) -> usize {
@@ -280,6 +307,7 @@ pub fn calls(loaders: [&dyn Loader; 2]) -> usize {
         let left = loaders.map(|loader| match what {
             What::Examine | What::Load => left_by(loader, what == What::Load, shape).concat(),
             What::Write | What::WriteExact => written_by(loader, what == What::WriteExact, shape),
+            What::Pick(distance, excluded) => picked_by(loader, &pick(shape, distance, excluded)),
         });
         assert!(left[0] == left[1], "the loaders leave different bytes");
     }
@@ -295,7 +323,7 @@ pub fn table(counts: &[i64]) -> Result<String, String> {
     }
     let mut text = format!(
         "Instructions an item, from two tables that differ in length; memset, memcpy and memmove are left out.\n\
-         Where no tables are named they have {FEW} and {MANY} descriptors ({MANY_LONG} of three bytes), or 512 and\n\
+         Where no tables are named they have {FEW} and {MANY} descriptors or globals ({MANY_LONG} of three bytes), or 512 and\n\
          1024 relocations or packed places. One PT_LOAD holds all, and {PASSED} more come before it where some are\n\
          passed over.\n\n\
          | Item | archive | Rust |\n|---|---|---|\n"

@@ -1,10 +1,10 @@
-//! Wrong variants of the Rust loader and writer: each breaks one rule. The generated cases must tell
-//! each of them from the right one.
+//! Wrong variants of the Rust loader, writer and picker: each breaks one rule. The generated cases must
+//! tell each of them from the right one.
 
 use crate::answers::{Loader, Under};
 use crate::headers::{Lookup, Segment, Segments, PT_DYNAMIC, PT_LOAD};
 use crate::relocations::ENTRY;
-use crate::rules::{After, Rules};
+use crate::rules::{After, Right, Rules, Stage};
 use crate::{load_untagged_by, Refusal, Untagged, ADDRESS_END, PAGE};
 
 pub struct Fault {
@@ -18,9 +18,10 @@ pub struct UntaggedFault {
     pub load: fn(&[u8], u64, u64) -> Result<Untagged, Refusal>,
 }
 
-/// The fault of a name, among those of loads, steps and writes.
+/// The fault of a name, among those of loads, steps, writes and picks.
 pub fn named(name: &str) -> Option<&'static Fault> {
-    FAULTS.iter().chain(STEP_FAULTS).chain(WRITER_FAULTS).find(|fault| fault.name == name)
+    let lists = [FAULTS, STEP_FAULTS, WRITER_FAULTS, PICKER_FAULTS];
+    lists.into_iter().flatten().find(|fault| fault.name == name)
 }
 
 /// A bias by 4,096 and one align.
@@ -49,12 +50,16 @@ macro_rules! rules {
     };
 }
 
+/// What a fault is of; all else is right, and need not be compiled again.
+type OfModules<R> = Under<R, Right>;
+type OfLists<R> = Under<Right, R>;
+
 /// Defines each fault as the rules with the given items put in, and lists them all.
 macro_rules! faults {
-    ($list:ident: $($kind:ident $name:literal { $($item:item)* })*) => {
+    ($list:ident $of:ident: $($kind:ident $name:literal { $($item:item)* })*) => {
         rules! { $($kind { $($item)* })* }
         pub const $list: &[Fault] =
-            &[$(Fault { name: $name, loader: &Under::<$kind>::new() }),*];
+            &[$(Fault { name: $name, loader: &$of::<$kind>::new() }),*];
     };
 }
 
@@ -69,7 +74,7 @@ macro_rules! untagged_faults {
 
 // Loads tell these apart.
 faults! {
-    FAULTS:
+    FAULTS OfModules:
     ForgetsPlace "the tag source forgets *P" {
         fn relative_source(bias: u64, addend: i64, _: u64) -> Option<u64> {
             Some(bias.wrapping_add_signed(addend))
@@ -859,7 +864,7 @@ faults! {
 
 // Steps of the descriptor reader alone tell these apart.
 faults! {
-    STEP_FAULTS:
+    STEP_FAULTS OfModules:
     AloneNoLong "no 16 in the reader alone" {
         const ALONE_LONG: bool = false;
     }
@@ -920,7 +925,7 @@ untagged_faults! {
 
 // Table writes tell these apart.
 faults! {
-    WRITER_FAULTS:
+    WRITER_FAULTS OfLists:
     MoreAddresses "addresses without a size are passed over" {
         fn unequal(addresses: usize, sizes: usize) -> bool {
             addresses < sizes
@@ -1080,5 +1085,239 @@ faults! {
     }
     ClearsRest "the bytes after the table are cleared" {
         const CLEARS_REST: bool = true;
+    }
+}
+
+// Picks tell these apart. Those of the writer's rules 2 to 5 are told by picks too.
+faults! {
+    PICKER_FAULTS OfLists:
+    NeighboursTag "the neighbour's tag where they abut" {
+        fn must_differ(_: u64, _: u64) -> bool {
+            false
+        }
+    }
+    DiffersApart "globals apart have to differ too" {
+        fn must_differ(_: u64, _: u64) -> bool {
+            true
+        }
+    }
+    DiffersNear "globals a granule apart have to differ too" {
+        fn must_differ(address: u64, last_end: u64) -> bool {
+            address.wrapping_sub(last_end) <= 16
+        }
+    }
+    AbutsShort "abutting by the low 32 bits" {
+        fn must_differ(address: u64, last_end: u64) -> bool {
+            address as u32 == last_end as u32
+        }
+    }
+    NeighbourAfter "the neighbour after counts too" {
+        const AVOIDS_AFTER: bool = true;
+    }
+    NeighbourStart "the neighbour counts by its random byte" {
+        fn neighbour(_: u8, start: u8) -> u8 {
+            start
+        }
+    }
+    FirstAbuts "a first global at address 0 abuts with tag 1" {
+        const BEFORE_FIRST: u8 = 1;
+    }
+    StartFifteen "start at the byte modulo 15" {
+        fn start(random: u8, _: u8) -> u8 {
+            random % 15
+        }
+    }
+    StartFromOne "start at the byte modulo 15, plus 1" {
+        fn start(random: u8, _: u8) -> u8 {
+            random % 15 + 1
+        }
+    }
+    StartHigh "start at the byte's high half" {
+        fn start(random: u8, _: u8) -> u8 {
+            random >> 4
+        }
+    }
+    StartOn "start one on" {
+        fn start(random: u8, _: u8) -> u8 {
+            random.wrapping_add(1) % 16
+        }
+    }
+    StartLent "the choice as lent moves the start" {
+        fn start(random: u8, lent: u8) -> u8 {
+            random.wrapping_add(lent) % 16
+        }
+    }
+    GoesDown "the search goes down" {
+        fn first_from(start: u8, left: u16) -> u8 {
+            let further = left.rotate_left(15 - u32::from(start)).leading_zeros() as u8;
+            (start + 16 - further) % 16
+        }
+        fn first_after(tag: u8, left: u16) -> u8 {
+            Self::first_from((tag + 15) % 16, left)
+        }
+    }
+    WrapsEarly "the search wraps at 15" {
+        fn first_from(start: u8, left: u16) -> u8 {
+            Right::first_from(start, left & 0x7fff)
+        }
+    }
+    NoWrap "the search ends at 15" {
+        fn first_from(start: u8, left: u16) -> u8 {
+            let further = (left >> start).trailing_zeros() as u8;
+            start + further.min(15 - start)
+        }
+    }
+    NextTag "the tag after the neighbour's, excluded or not" {
+        fn first_after(tag: u8, _: u16) -> u8 {
+            (tag + 1) % 16
+        }
+    }
+    ZeroLeft "bit 0 of the mask may be clear" {
+        fn left(excluded: u16) -> u16 {
+            !excluded
+        }
+    }
+    MaskUp "mask bits are one up" {
+        fn left(excluded: u16) -> u16 {
+            !(excluded << 1) & !1
+        }
+    }
+    MaskDown "mask bits are one down" {
+        fn left(excluded: u16) -> u16 {
+            !(excluded >> 1) & !1
+        }
+    }
+    MaskAllowed "the mask is of the tags allowed" {
+        fn left(excluded: u16) -> u16 {
+            excluded & !1
+        }
+    }
+    MaskBits "bit 15 of the mask is not read" {
+        fn left(excluded: u16) -> u16 {
+            !(excluded & 0x7fff) & !1
+        }
+    }
+    MaskByte "the mask has a byte" {
+        fn left(excluded: u16) -> u16 {
+            !(excluded & 0xff) & !1
+        }
+    }
+    OneTooFew "8 where one tag is left and nothing abuts" {
+        const ENOUGH_APART: u32 = 2;
+    }
+    OneEnough "no 8 where one tag is left and two abut" {
+        const ENOUGH_ABUTTING: u32 = 1;
+    }
+    TwoTooFew "8 where two tags are left and two abut" {
+        const ENOUGH_ABUTTING: u32 = 3;
+    }
+    NoneEnough "no 8 where no tag is left and nothing abuts" {
+        const ENOUGH_APART: u32 = 0;
+    }
+    EmptyNeedsTag "8 for no globals where no tag is left" {
+        const EMPTY_NEEDS_TAG: bool = true;
+    }
+    ZeroAbuts "8 where one tag is left and a first global is at address 0" {
+        fn abutting(addresses: &[u64], sizes: &[u64]) -> Option<usize> {
+            if addresses.first() == Some(&0) { Some(0) } else { Right::abutting(addresses, sizes) }
+        }
+    }
+    FirstTwo "8 asks the first two globals" {
+        fn abutting(addresses: &[u64], sizes: &[u64]) -> Option<usize> {
+            Right::abutting(&addresses[..addresses.len().min(2)], sizes)
+        }
+    }
+    AllButLast "8 asks all globals but the last" {
+        fn abutting(addresses: &[u64], sizes: &[u64]) -> Option<usize> {
+            Right::abutting(addresses.split_last()?.1, sizes)
+        }
+    }
+    AbutsInLimit "8 asks the first 65,536 globals" {
+        fn abutting(addresses: &[u64], sizes: &[u64]) -> Option<usize> {
+            Right::abutting(&addresses[..addresses.len().min(65_536)], sizes)
+        }
+    }
+    NoneAtStuck "8 at the global for which no tag is left" {
+        fn none_at(stuck: usize, _: usize) -> u64 {
+            stuck as u64
+        }
+    }
+    NoneAtCount "8 at the number of globals" {
+        fn none_at(_: usize, globals: usize) -> u64 {
+            globals as u64
+        }
+    }
+    NoneFirst "8 before 2 to 5" {
+        const STAGES: [Stage; 3] = [Stage::Lengths, Stage::Tags, Stage::Globals];
+    }
+    NoneBeforeLengths "8 before 7" {
+        const STAGES: [Stage; 3] = [Stage::Tags, Stage::Lengths, Stage::Globals];
+    }
+    LengthsAfterGlobals "7 after 2 to 5" {
+        const STAGES: [Stage; 3] = [Stage::Globals, Stage::Lengths, Stage::Tags];
+    }
+    LengthsAfterNone "7 after 2 to 5 and 8" {
+        const STAGES: [Stage; 3] = [Stage::Globals, Stage::Tags, Stage::Lengths];
+    }
+    AddressesUnasked "7 does not ask the addresses" {
+        fn lengths_differ([_, sizes, random, choices]: [usize; 4]) -> bool {
+            sizes != random || sizes != choices
+        }
+    }
+    SizesUnasked "7 does not ask the sizes" {
+        fn lengths_differ([addresses, _, random, choices]: [usize; 4]) -> bool {
+            addresses != random || addresses != choices
+        }
+    }
+    RandomUnasked "7 does not ask the random bytes" {
+        fn lengths_differ([addresses, sizes, _, choices]: [usize; 4]) -> bool {
+            addresses != sizes || addresses != choices
+        }
+    }
+    ChoicesUnasked "7 does not ask the choices" {
+        fn lengths_differ([addresses, sizes, random, _]: [usize; 4]) -> bool {
+            addresses != sizes || addresses != random
+        }
+    }
+    RandomOver "random bytes left over are passed over" {
+        fn lengths_differ([addresses, sizes, random, choices]: [usize; 4]) -> bool {
+            addresses != sizes || addresses > random || addresses != choices
+        }
+    }
+    ChoicesOver "room for more choices is passed over" {
+        fn lengths_differ([addresses, sizes, random, choices]: [usize; 4]) -> bool {
+            addresses != sizes || addresses != random || addresses > choices
+        }
+    }
+    PicksLimited "65,536 globals at most" {
+        fn lengths_differ(lengths: [usize; 4]) -> bool {
+            Right::lengths_differ(lengths) || lengths[0] > 65_536
+        }
+    }
+    LengthsAsOne "1 in place of 7" {
+        const LENGTHS: u8 = 1;
+    }
+    LengthsNamed "7 at the shortest length" {
+        fn lengths_at(lengths: [usize; 4]) -> u64 {
+            lengths.into_iter().min().unwrap_or(0) as u64
+        }
+    }
+    FillsWalked "the choices before a refused global are written" {
+        fn fills_before(number: u8) -> bool {
+            (2..=5).contains(&number)
+        }
+    }
+    FillsNone "the choices are written before 8" {
+        fn fills_before(number: u8) -> bool {
+            number == 8
+        }
+    }
+    FillsUnequal "the choices are written before 7" {
+        fn fills_before(number: u8) -> bool {
+            number == 7
+        }
+    }
+    ClearsChoices "the choices are cleared before a refusal" {
+        const CLEARS_CHOICES: bool = true;
     }
 }

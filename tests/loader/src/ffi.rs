@@ -40,6 +40,17 @@ mod archive {
             buffer: *mut u8,
             buffer_length: usize,
         ) -> u64;
+        fn hagolstan_pick_tags(
+            addresses: *const u64,
+            addresses_length: usize,
+            sizes: *const u64,
+            sizes_length: usize,
+            random: *const u8,
+            random_length: usize,
+            excluded: u16,
+            choices: *mut u8,
+            choices_length: usize,
+        ) -> u64;
     }
 
     pub struct Proved;
@@ -116,6 +127,30 @@ mod archive {
                     sizes.len(),
                     buffer.as_mut_ptr(),
                     buffer.len(),
+                )
+            }
+        }
+
+        fn pick_tags(
+            &self,
+            addresses: &[u64],
+            sizes: &[u64],
+            random: &[u8],
+            excluded: u16,
+            choices: &mut [u8],
+        ) -> u64 {
+            // SAFETY: as above.
+            unsafe {
+                hagolstan_pick_tags(
+                    addresses.as_ptr(),
+                    addresses.len(),
+                    sizes.as_ptr(),
+                    sizes.len(),
+                    random.as_ptr(),
+                    random.len(),
+                    excluded,
+                    choices.as_mut_ptr(),
+                    choices.len(),
                 )
             }
         }

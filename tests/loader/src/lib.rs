@@ -1,5 +1,5 @@
-//! A plain loader and a plain writer of descriptor tables, written from the documents alone, to be
-//! compared with the proved ones.
+//! A plain loader, a plain writer of descriptor tables and a plain picker of tags, written from the
+//! documents alone, to be compared with the proved ones.
 
 pub mod answers;
 pub mod bench;
@@ -16,6 +16,8 @@ pub mod generate;
 mod headers;
 mod load;
 mod packed;
+pub mod pick_by_words;
+mod picker;
 pub mod random;
 mod relocations;
 pub mod rules;
@@ -25,6 +27,7 @@ pub mod writer;
 
 pub use descriptors::{step_by, Step};
 pub use load::{examine_by, load_by};
+pub use picker::pick_tags_by;
 pub use untagged::{load_untagged_by, Untagged};
 pub use writer::write_table_by;
 
@@ -105,4 +108,16 @@ pub fn step(table: &[u8], position: u64, last_end: u64, index: u64) -> Result<St
 /// the buffer as it was, and bytes after the table stay.
 pub fn write_table(addresses: &[u64], sizes: &[u64], buffer: &mut [u8]) -> Result<usize, Refusal> {
     write_table_by::<Right>(addresses, sizes, buffer)
+}
+
+/// Picks a tag for each global: the first one, from its random byte on, that is not excluded and not that
+/// of an abutting global before. The number of globals; a refusal leaves the choices as they were.
+pub fn pick_tags(
+    addresses: &[u64],
+    sizes: &[u64],
+    random: &[u8],
+    excluded: u16,
+    choices: &mut [u8],
+) -> Result<usize, Refusal> {
+    pick_tags_by::<Right>(addresses, sizes, random, excluded, choices)
 }

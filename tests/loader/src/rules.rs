@@ -1,5 +1,5 @@
-//! The single rules of the loader and of the writer that the seeded faults change. The defaults are
-//! the right ones; a fault overrides one of them.
+//! The single rules of the loader, of the writer and of the picker that the seeded faults change. The
+//! defaults are the right ones; a fault overrides one of them.
 
 use crate::headers::{Lookup, Segment, Segments, PT_LOAD};
 use crate::relocations::ENTRY;
@@ -15,6 +15,17 @@ pub enum After {
     Loads,
     /// 8 and 9 of all descriptors.
     All,
+}
+
+/// A part of the picker's checks.
+#[derive(Clone, Copy)]
+pub enum Stage {
+    /// 7.
+    Lengths,
+    /// 2 to 5.
+    Globals,
+    /// 8.
+    Tags,
 }
 
 pub trait Rules {
@@ -484,6 +495,82 @@ pub trait Rules {
     const WRITES_WHAT_FITS: bool = false;
     /// Bytes after the table stay.
     const CLEARS_REST: bool = false;
+
+    // The picker of tags. Of a global it checks 2 to 5 as the writer does.
+
+    /// 7: the lists of addresses, sizes, random bytes and choices are not all equally long.
+    fn lengths_differ([addresses, sizes, random, choices]: [usize; 4]) -> bool {
+        addresses != sizes || addresses != random || addresses != choices
+    }
+
+    /// 7: its number and its index.
+    const LENGTHS: u8 = 7;
+    fn lengths_at(_lengths: [usize; 4]) -> u64 {
+        0
+    }
+
+    /// The order of 7, of 2 to 5 and of 8.
+    const STAGES: [Stage; 3] = [Stage::Lengths, Stage::Globals, Stage::Tags];
+
+    /// The tags left by a mask of excluded ones, whose bit 0 counts as set.
+    fn left(excluded: u16) -> u16 {
+        !excluded & !1
+    }
+
+    /// 8: where there is no global, no tag is needed.
+    const EMPTY_NEEDS_TAG: bool = false;
+    /// 8: tags that are enough where nothing abuts, and whatever abuts.
+    const ENOUGH_APART: u32 = 1;
+    const ENOUGH_ABUTTING: u32 = 2;
+
+    /// 8: the first global that abuts with the one before.
+    fn abutting(addresses: &[u64], sizes: &[u64]) -> Option<usize> {
+        let ends = addresses.iter().zip(sizes).map(|(&a, &s)| Self::next_end(a, s));
+        let first = ends.zip(addresses.iter().skip(1)).position(|(end, &start)| end == start);
+        first.map(|before| before + 1)
+    }
+
+    /// 8: its index, from that of a global for which no tag is left.
+    fn none_at(_stuck: usize, _globals: usize) -> u64 {
+        0
+    }
+
+    /// Where the search starts, below 16. The choice as lent has no say.
+    fn start(random: u8, _lent: u8) -> u8 {
+        random % 16
+    }
+
+    /// The first tag left from a start on, going up and wrapping at 16.
+    fn first_from(start: u8, left: u16) -> u8 {
+        let further = left.rotate_right(start.into()).trailing_zeros() as u8;
+        (start + further) % 16
+    }
+
+    /// The first one after a tag that is the neighbour's.
+    fn first_after(tag: u8, left: u16) -> u8 {
+        Self::first_from((tag + 1) % 16, left)
+    }
+
+    /// A global has to differ from the one before where they abut.
+    fn must_differ(address: u64, last_end: u64) -> bool {
+        address == last_end
+    }
+
+    /// What the next one differs from, by the choice and by the tag that the search started at.
+    fn neighbour(choice: u8, _start: u8) -> u8 {
+        choice
+    }
+
+    /// The neighbour of a first global at address 0: tag 0 is never left.
+    const BEFORE_FIRST: u8 = 0;
+    /// The neighbour after does not count.
+    const AVOIDS_AFTER: bool = false;
+
+    /// A refusal leaves the choices as lent.
+    fn fills_before(_number: u8) -> bool {
+        false
+    }
+    const CLEARS_CHOICES: bool = false;
 }
 
 /// The rules as they stand.

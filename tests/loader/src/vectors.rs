@@ -1,7 +1,7 @@
 //! The outside vectors in tests/vectors.
 
-use crate::answers::{Call, Listing, Outcome, StepAnswer, Written};
-use crate::bytes::{u32_at, u64_at};
+use crate::answers::{Call, Listing, Outcome, Picked, Picking, StepAnswer, Written};
+use crate::bytes::{u16_at, u32_at, u64_at};
 use crate::compare::hex;
 use crate::crc::crc32;
 use crate::{Facts, Mode, Refusal, Step, Switch, Untagged};
@@ -27,6 +27,12 @@ pub struct WriteVector {
     pub answer: String,
 }
 
+pub struct PickVector {
+    pub name: String,
+    pub pick: Picking,
+    pub answer: String,
+}
+
 fn read(name: &str) -> Vec<u8> {
     let path = PathBuf::from(env!("CARGO_MANIFEST_DIR")).join("../vectors").join(name);
     std::fs::read(&path).unwrap_or_else(|e| panic!("{}: {e}", path.display()))
@@ -43,6 +49,10 @@ impl<'a> Records<'a> {
         let (taken, rest) = self.0.split_at(count);
         self.0 = rest;
         taken
+    }
+
+    fn u16(&mut self) -> u16 {
+        u16_at(self.bytes(2), 0)
     }
 
     fn u32(&mut self) -> usize {
@@ -175,6 +185,27 @@ pub fn writes() -> Vec<WriteVector> {
     vectors
 }
 
+/// Choice i is lent as i × 3 + 7.
+pub fn picks() -> Vec<PickVector> {
+    let bytes = read("level-07/pick.cases");
+    let mut records = Records(&bytes);
+    let named = lines("level-07/pick.names").into_iter().zip(lines("level-07/pick.answers"));
+    let vectors = named
+        .map(|(name, answer)| {
+            let pick = Picking {
+                addresses: records.words(),
+                sizes: records.words(),
+                random: records.counted(),
+                excluded: records.u16(),
+                choices: (0..records.u32()).map(|i| (3 * i + 7) as u8).collect(),
+            };
+            PickVector { name, pick, answer }
+        })
+        .collect();
+    assert!(records.0.is_empty());
+    vectors
+}
+
 /// The line of load.answers for an outcome and the facts of examine.
 pub fn load_line(outcome: &Outcome, examined: &Result<Facts, Refusal>) -> String {
     let switch = |s| match s {
@@ -221,12 +252,21 @@ pub fn step_line(answer: &StepAnswer) -> String {
     }
 }
 
-/// The line of write.answers for a table write.
-pub fn write_line(written: &Written) -> String {
-    let buffer = match &written.buffer[..] {
+/// A buffer whole, or by its CRC-32 where it is long.
+fn shown(buffer: &[u8]) -> String {
+    match buffer {
         [] => "-".to_owned(),
         short if short.len() <= 64 => hex(short),
         long => format!("#{:08x}", crc32(long)),
-    };
-    format!("{} {buffer}", written.answer)
+    }
+}
+
+/// The line of write.answers for a table write.
+pub fn write_line(written: &Written) -> String {
+    format!("{} {}", written.answer, shown(&written.buffer))
+}
+
+/// The line of pick.answers for a pick.
+pub fn pick_line(picked: &Picked) -> String {
+    format!("{} {}", picked.answer, shown(&picked.choices))
 }

@@ -44,6 +44,18 @@ fn check<R: Rules, const LENGTH: bool>(addresses: &[u64], sizes: &[u64]) -> Resu
     if unequal && !R::LENGTHS_LAST {
         return Err(refusal(1, R::unequal_at(addresses.len(), sizes.len())));
     }
+    match check_globals::<R, LENGTH>(addresses, sizes) {
+        Ok(_) if unequal => Err(refusal(1, 0)),
+        checked => checked,
+    }
+}
+
+/// Checks 2 to 5, of each global. The length of the table where it is asked for, else 0.
+#[inline]
+pub(crate) fn check_globals<R: Rules, const LENGTH: bool>(
+    addresses: &[u64],
+    sizes: &[u64],
+) -> Result<usize, Refusal> {
     let (mut last_end, mut length) = (0, 0);
     let mut worst: Option<Refusal> = None;
     for (i, (&address, &size)) in addresses.iter().zip(sizes).enumerate() {
@@ -65,11 +77,7 @@ fn check<R: Rules, const LENGTH: bool>(addresses: &[u64], sizes: &[u64]) -> Resu
         }
         last_end = R::next_end(address, size);
     }
-    match worst {
-        Some(broken) => Err(broken),
-        None if unequal => Err(refusal(1, 0)),
-        None => Ok(length),
-    }
+    worst.map_or(Ok(length), Err)
 }
 
 /// Writes a list that has passed its checks; the length of the table.

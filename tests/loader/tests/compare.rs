@@ -15,7 +15,8 @@ fn run(program: &str, words: &[&str]) -> (Option<i32>, String) {
 fn equal_loaders_are_equal() {
     let (code, text) = run(COMPARE, &["--against", "self", "--cases", "2000"]);
     assert_eq!(code, Some(0), "{text}");
-    assert!(text.contains("3985 calls, 2703 descriptor steps, 2346 table writes"), "{text}");
+    let counts = "3985 calls, 2703 descriptor steps, 2346 table writes, 2358 picks";
+    assert!(text.contains(counts), "{text}");
     assert!(text.contains("different: 0"), "{text}");
 }
 
@@ -69,6 +70,19 @@ fn a_different_table_is_shown() {
 }
 
 #[test]
+fn a_different_pick_is_shown() {
+    let against = "fault:the search goes down";
+    let words = ["--against", against, "--cases", "0", "--stop", "1"];
+    let (code, text) = run(COMPARE, &words);
+    assert_eq!(code, Some(1), "{text}");
+    assert!(text.contains("different: pick vector 0, random_0_nothing_excluded"), "{text}");
+    assert!(text.contains("choices: 1 bytes, first at 0x0: plain 0x01, other 0x0f"), "{text}");
+    let words = "by the words, other: choice 0 is 15, and another good one comes before it";
+    assert!(text.contains(words), "{text}");
+    assert!(text.contains("pick_tags([100], [10], 00, 0x0000, 07)"), "{text}");
+}
+
+#[test]
 fn wrong_words_are_told() {
     assert_eq!(run(COMPARE, &["--against", "nothing"]).0, Some(2));
     assert_eq!(run(COMPARE, &["replay", "no such file"]).0, Some(2));
@@ -84,5 +98,6 @@ fn the_bench_images_are_taken() {
     assert_eq!(text.matches("refused by 11 |").count(), 2, "{text}");
     assert_eq!(text.matches("| best |").count(), 19, "{text}");
     assert_eq!(text.matches("| median |").count(), 19, "{text}");
-    assert_eq!(text.matches("globals").count(), 5, "{text}");
+    assert_eq!(text.matches("globals").count(), 5 + 12, "{text}");
+    assert_eq!(text.matches("abutting, three tags left |").count(), 4, "{text}");
 }

@@ -1,8 +1,9 @@
-//! The generated cases tell every seeded fault from the right loader.
+//! The generated cases tell every seeded fault from the right loader, writer or picker.
 
 use loader::answers::{Call, Loader, RIGHT};
-use loader::faults::{FAULTS, STEP_FAULTS, UNTAGGED_FAULTS, WRITER_FAULTS};
+use loader::faults::{FAULTS, PICKER_FAULTS, STEP_FAULTS, UNTAGGED_FAULTS, WRITER_FAULTS};
 use loader::generate::list::write_case;
+use loader::generate::pick::{pick_case, PickCase};
 use loader::generate::{case, count, step_case, Case, SEED};
 use loader::load_untagged;
 use std::panic::{catch_unwind, AssertUnwindSafe};
@@ -87,6 +88,54 @@ fn each_is_caught() {
     loads.each(total);
     untagged.each(total);
     writes.each(total);
+}
+
+/// The picker's own, and the writer's that are about what both refuse of a global.
+#[test]
+fn picks_catch_each() {
+    let names = [
+        "a size of 0 is written",
+        "only addresses must be multiples of 16",
+        "only sizes must be multiples of 16",
+        "only ends must be multiples of 16",
+        "multiples of 8 are taken",
+        "a start may be a granule before the last end",
+        "starts in any order",
+        "listed globals may not abut",
+        "no global at address 0",
+        "an end of 2^48 is refused",
+        "an end a granule above 2^48 is taken",
+        "an end wraps at 2^64",
+        "an end of 2^64 counts as 0",
+        "only the start must be below 2^48",
+        "3 before 2",
+        "4 before 2 and 3",
+        "5 before 4",
+        "5 before 2 and 3",
+        "each rule over the whole list before the next",
+    ];
+    let of_writes: Vec<_> = WRITER_FAULTS.iter().filter(|f| names.contains(&f.name)).collect();
+    assert_eq!(of_writes.len(), names.len());
+    let faults: Vec<_> = PICKER_FAULTS.iter().chain(of_writes).collect();
+    let total = count(11_000);
+    let mut picks = Caught::new(faults.iter().map(|f| f.name).collect());
+    let mut each = |i: u64, case: &PickCase, large: bool| {
+        let name = format!("pick {i}, {}", case.name);
+        picks.case(&name, large, RIGHT.picked(&case.pick), |i| faults[i].loader.picked(&case.pick));
+    };
+    let mut large_cases = Vec::new();
+    for i in 0..total {
+        let case = pick_case(SEED, i);
+        if case.pick.addresses.len() > 10_000 {
+            large_cases.push(i);
+        } else {
+            each(i, &case, false);
+        }
+    }
+    for i in large_cases {
+        each(i, &pick_case(SEED, i), true);
+    }
+    picks.each(total);
 }
 
 #[test]

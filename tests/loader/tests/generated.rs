@@ -1,12 +1,14 @@
 //! The Rust loader gives the answer that each generated case was made for.
 
-use loader::answers::{Call, Listing, Loader, RIGHT};
+use loader::answers::{Call, Listing, Loader, Picking, RIGHT};
 use loader::by_words::{Form, Number};
 use loader::compare::{difference, reads_back};
 use loader::generate::damage::{Expected, DAMAGES};
 use loader::generate::list::{write_case, CHANGES};
 use loader::generate::module::uleb;
+use loader::generate::pick::{changes, masks, pick_case, LARGE, LENGTHS, LISTS, SHAPES};
 use loader::generate::{cases, count, step_case, SEED};
+use loader::pick_by_words::judge;
 use loader::{examine, load_untagged, step, Step};
 use std::collections::BTreeSet;
 
@@ -389,4 +391,115 @@ fn bytes_of_descriptors(table: &[u8]) -> Vec<usize> {
         (at, last_end) = (position, end);
     }
     list
+}
+
+/// What picks are made of, by how often it came.
+#[derive(Debug, Default)]
+struct Picks {
+    /// Masks with a shape of a list, which has some globals.
+    masks: BTreeSet<(u16, String)>,
+    /// Lists of none, one, two and more globals.
+    lengths: [u64; 4],
+    /// Taken: the first global at address 0, the last end at 2^48.
+    from_zero: u64,
+    to_end: u64,
+    /// Taken: globals whose start is the choice of an abutting one before, and that of one apart.
+    at_neighbours: u64,
+    at_others: u64,
+    /// Taken: starts, and choices.
+    starts: BTreeSet<u8>,
+    choices: BTreeSet<u8>,
+    /// Refused by 2 to 5, at index 0, in the middle and at the last, where few tags are left too.
+    places: [u64; 3],
+    before_none: u64,
+}
+
+impl Picks {
+    fn taken(&mut self, pick: &Picking, choices: &[u8]) {
+        let ends = pick.addresses.iter().zip(&pick.sizes).map(|(address, size)| address + size);
+        let ends: Vec<u64> = ends.collect();
+        self.from_zero += u64::from(pick.addresses.first() == Some(&0));
+        self.to_end += u64::from(ends.last() == Some(&(1 << 48)));
+        for i in 1..choices.len() {
+            let same = u64::from(pick.random[i] % 16 == choices[i - 1]);
+            let count = if ends[i - 1] == pick.addresses[i] {
+                &mut self.at_neighbours
+            } else {
+                &mut self.at_others
+            };
+            *count += same;
+        }
+        self.starts.extend(pick.random.iter().map(|byte| byte % 16));
+        self.choices.extend(choices);
+    }
+
+    fn refused(&mut self, pick: &Picking, index: usize) {
+        let last = index > 0 && index + 1 == pick.addresses.len();
+        self.places[if last { 2 } else { usize::from(index > 0) }] += 1;
+        self.before_none += u64::from((pick.excluded | 1).count_zeros() < 2);
+    }
+
+    fn enough(&self) -> bool {
+        let shapes = SHAPES.iter().map(|shape| shape.0);
+        let each = |(shape, mask): (&str, u16)| self.masks.contains(&(mask, shape.to_owned()));
+        let mut pairs = shapes.flat_map(|shape| masks().into_iter().map(move |mask| (shape, mask)));
+        pairs.all(each)
+            && self.lengths.iter().chain(&self.places).all(|&n| n > 100)
+            && self.from_zero.min(self.to_end).min(self.before_none) > 500
+            && self.at_neighbours.min(self.at_others) > 5_000
+            && self.starts.iter().copied().eq(0..16)
+            && self.choices.iter().copied().eq(1..16)
+    }
+}
+
+#[test]
+fn picks() {
+    let total = count(20_000);
+    let mut seen = [0u64; 9];
+    let mut names = BTreeSet::new();
+    let mut parts = Picks::default();
+    for i in 0..total {
+        let case = pick_case(SEED, i);
+        let pick = &case.pick;
+        let picked = RIGHT.picked(pick);
+        let at = format!("pick {i}, {}", case.name);
+        let got = (picked.number(), picked.index());
+        match case.expected {
+            Expected::Taken => assert_eq!(got, (0, pick.addresses.len() as u64), "{at}"),
+            Expected::Refused(number, index) => assert_eq!(got, (number, index), "{at}"),
+            Expected::Unknown => {}
+        }
+        assert!(!picked.strayed, "{at}");
+        assert_eq!(judge(pick, &picked), Ok(()), "{at}");
+        match got.0 {
+            0 => parts.taken(pick, &picked.choices),
+            2..=5 => parts.refused(pick, got.1 as usize),
+            _ => {}
+        }
+        parts.lengths[pick.addresses.len().min(3)] += 1;
+        if let (Some((shape, _)), 1..) = (case.name.split_once(", "), pick.addresses.len()) {
+            parts.masks.insert((pick.excluded, shape.to_owned()));
+        }
+        seen[usize::from(got.0)] += 1;
+        names.insert(case.name);
+    }
+    println!("taken {}, refused 2 to 5, 7 and 8: {:?}, {:?}", seen[0], &seen[2..6], &seen[7..]);
+    let Picks { lengths, from_zero, to_end, at_neighbours, at_others, .. } = &parts;
+    println!(
+        "none, one, two and more globals: {lengths:?}; from 0 on {from_zero}, to 2^48 {to_end}"
+    );
+    println!("starts at the neighbour's choice: abutting {at_neighbours}, apart {at_others}");
+    println!("bad globals first, inside, last: {:?}, before 8 {}", parts.places, parts.before_none);
+    assert!([0, 2, 3, 4, 5, 7, 8].iter().all(|&number| seen[number] > 0));
+    assert!(LARGE.iter().all(|large| names.contains(&format!("large: {}", large.0))));
+    if total >= 20_000 {
+        assert!(parts.enough());
+        assert!(changes().iter().all(|c| names.contains(&format!("{}: {}", c.row, c.name))));
+        for (list, (how, _)) in LISTS.iter().flat_map(|list| LENGTHS.map(|how| (list, how))) {
+            let named = |name: &&String| name.starts_with(&format!("7: {how} of {list}, beside"));
+            let beside = |part: &str| names.iter().filter(named).any(|name| name.contains(part));
+            // Beside nothing else, beside 8, and beside a bad global.
+            assert!(["all left", "1 left", ": "].map(beside).into_iter().all(|met| met), "{list}");
+        }
+    }
 }

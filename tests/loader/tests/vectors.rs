@@ -3,7 +3,7 @@
 use loader::answers::{Call, Loader, RIGHT};
 use loader::compare::difference;
 use loader::ffi::proved;
-use loader::{examine, load_untagged, step, vectors, Refusal};
+use loader::{examine, load_untagged, pick_by_words, step, vectors, Refusal};
 
 #[test]
 fn loads() {
@@ -76,5 +76,20 @@ fn writes() {
         let written = RIGHT.written(&v.list);
         assert_eq!(vectors::write_line(&written), v.answer, "case {i}, {}", v.name);
         assert!(!written.strayed, "case {i}, {}", v.name);
+    }
+}
+
+/// The words say the same, and the archive where this was built with it.
+#[test]
+fn picks() {
+    let vectors = vectors::picks();
+    assert_eq!(vectors.len(), 358);
+    for (i, v) in vectors.iter().enumerate() {
+        for loader in std::iter::once(&RIGHT as &dyn Loader).chain(proved()) {
+            let picked = loader.picked(&v.pick);
+            assert_eq!(vectors::pick_line(&picked), v.answer, "case {i}, {}", v.name);
+            assert_eq!(pick_by_words::judge(&v.pick, &picked), Ok(()), "case {i}, {}", v.name);
+            assert!(!picked.strayed, "case {i}, {}", v.name);
+        }
     }
 }

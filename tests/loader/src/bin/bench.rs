@@ -1,11 +1,12 @@
-//! Times the proved loader and writer beside the Rust ones; prints five markdown tables.
+//! Times the proved loader, writer and picker beside the Rust ones; prints six markdown tables.
 //!
 //!     bench [--against archive] [--rounds N]
 
-use loader::answers::{Listing, Loader};
+use loader::answers::{Listing, Loader, Picking};
 use loader::bench::{bare, empty_bitmaps, examines, image, loads, mixed, packed, Times, SIZES};
 use loader::bench::{entries, loads_beside_copies, repeated, walks, ORDERS};
 use loader::bench::{mixed_globals, short_globals, writes};
+use loader::bench::{picks, picks_of, Abutting, THREE_LEFT};
 use loader::compare::partner;
 use std::process::ExitCode;
 use std::time::Duration;
@@ -30,6 +31,11 @@ fn row(image: &str, call: &str, times: [Times; 2]) {
 fn write_row(name: &str, list: &Listing, loaders: [&dyn Loader; 2], rounds: usize) {
     let times = writes(list, loaders, rounds);
     println!("| {name} | {} |", cells(times, list.addresses.len() as f64, 2));
+}
+
+fn pick_row(name: &str, pick: &Picking, loaders: [&dyn Loader; 2], rounds: usize) {
+    let times = picks(pick, loaders, rounds);
+    println!("| {name} | {} |", cells(times, pick.addresses.len() as f64, 2));
 }
 
 /// The numbers of entries, each time beside none.
@@ -175,6 +181,23 @@ fn run(words: &[String]) -> Result<(), String> {
         write_row(&format!("{name} mixed globals"), &mixed, loaders, rounds);
         let exact = Listing { buffer_length, ..mixed };
         write_row(&format!("{name} mixed globals, no byte to spare"), &exact, loaders, rounds);
+    }
+
+    println!("\nNanoseconds a global of pick_tags, in the same way, with new random bytes for each two.\n");
+    println!("| list | first best | first median | second best | second median | best ratio | median ratio |");
+    println!("|---|---|---|---|---|---|---|");
+    for (name, count) in [("1,024", 1_024), ("65,536", 65_536)] {
+        let abutting = [
+            ("apart", Abutting::Nothing),
+            ("abutting", Abutting::All),
+            ("half abutting", Abutting::Half),
+        ];
+        for (how, abutting) in abutting {
+            for (tags, excluded) in [("nothing excluded", 0), ("three tags left", THREE_LEFT)] {
+                let pick = picks_of(count, abutting, excluded);
+                pick_row(&format!("{name} globals {how}, {tags}"), &pick, loaders, rounds);
+            }
+        }
     }
     Ok(())
 }

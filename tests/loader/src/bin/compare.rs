@@ -11,6 +11,9 @@ use loader::compare::{difference, partner, run, unhex, Settings};
 use loader::generate::{count, SEED};
 use std::process::ExitCode;
 
+/// Taken, and the refusals of the picker in their order.
+const PICK_ANSWERS: [u8; 7] = [0, 7, 2, 3, 4, 5, 8];
+
 fn number(text: &str) -> Result<u64, String> {
     let parsed = match text.strip_prefix("0x") {
         Some(digits) => u64::from_str_radix(digits, 16),
@@ -75,8 +78,8 @@ fn whole(words: &[String]) -> Result<bool, String> {
     }
     let counts = run(&settings)?;
     println!(
-        "{} calls, {} descriptor steps, {} table writes, against {}",
-        counts.calls, counts.steps, counts.writes, settings.against
+        "{} calls, {} descriptor steps, {} table writes, {} picks, against {}",
+        counts.calls, counts.steps, counts.writes, counts.picks, settings.against
     );
     println!("taken {}", counts.answers[0]);
     for (i, n) in counts.answers.iter().enumerate().skip(1) {
@@ -86,9 +89,14 @@ fn whole(words: &[String]) -> Result<bool, String> {
     for (i, n) in counts.write_answers.iter().enumerate().skip(1) {
         println!("tables refused {i}: {n}");
     }
+    let picks = PICK_ANSWERS.map(|number| counts.pick_answers[usize::from(number)]);
+    println!("picks taken {}", picks[0]);
+    for (number, n) in PICK_ANSWERS.iter().zip(picks).skip(1) {
+        println!("picks refused {number}: {n}");
+    }
     println!("different: {}", counts.different);
     if counts.different == 0 {
-        let mut answers = counts.answers.iter().chain(&counts.write_answers);
+        let mut answers = counts.answers.iter().chain(&counts.write_answers).chain(&picks);
         assert!(answers.all(|&n| n > 0), "an answer was never seen");
     }
     Ok(counts.different == 0)

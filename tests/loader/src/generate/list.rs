@@ -7,27 +7,28 @@ use crate::answers::Listing;
 use crate::random::Random;
 use crate::writer::ENOUGH;
 use crate::ADDRESS_END;
+use std::ops::RangeInclusive;
 
 /// Granules below 2^48.
-const GRANULES: u64 = ADDRESS_END / 16;
+pub(super) const GRANULES: u64 = ADDRESS_END / 16;
 
-struct List {
-    addresses: Vec<u64>,
-    sizes: Vec<u64>,
+pub(super) struct List {
+    pub(super) addresses: Vec<u64>,
+    pub(super) sizes: Vec<u64>,
     buffer: usize,
 }
 
 impl List {
-    fn new() -> List {
+    pub(super) fn new() -> List {
         List { addresses: Vec::new(), sizes: Vec::new(), buffer: 0 }
     }
 
-    fn push(&mut self, address: u64, size: u64) {
+    pub(super) fn push(&mut self, address: u64, size: u64) {
         self.addresses.push(address);
         self.sizes.push(size);
     }
 
-    fn len(&self) -> usize {
+    pub(super) fn len(&self) -> usize {
         self.addresses.len()
     }
 
@@ -38,7 +39,7 @@ impl List {
     }
 
     /// The end of the global before, or 0.
-    fn last_end(&self, at: usize) -> u64 {
+    pub(super) fn last_end(&self, at: usize) -> u64 {
         if at == 0 {
             0
         } else {
@@ -145,7 +146,7 @@ pub struct Change {
     /// The refusal it is about; 0 for the encoding.
     pub row: u8,
     pub name: &'static str,
-    apply: Apply,
+    pub(super) apply: Apply,
 }
 
 const fn change(row: u8, name: &'static str, apply: Apply) -> Change {
@@ -508,7 +509,7 @@ pub struct WriteCase {
 }
 
 /// The first, the middle, the last or any index.
-fn place(r: &mut Random, count: usize) -> usize {
+pub(super) fn place(r: &mut Random, count: usize) -> usize {
     match r.below(4) {
         _ if count == 0 => 0,
         0 => 0,
@@ -518,7 +519,7 @@ fn place(r: &mut Random, count: usize) -> usize {
     }
 }
 
-fn label(change: &Change) -> String {
+pub(super) fn label(change: &Change) -> String {
     format!("{}: {}", change.row, change.name)
 }
 
@@ -538,8 +539,8 @@ fn single(r: &mut Random, change: &Change) -> WriteCase {
     panic!("no list for {}", label(change));
 }
 
-/// Two faults in one list: the one that is answered is put in last.
-fn double(r: &mut Random) -> WriteCase {
+/// Two faults of some rows in one list: the one that is answered is put in last.
+pub(super) fn double(r: &mut Random, rows: RangeInclusive<u8>) -> WriteCase {
     loop {
         let mut list = List::random(r);
         let (i, j) = (place(r, list.len()), place(r, list.len()));
@@ -550,7 +551,7 @@ fn double(r: &mut Random) -> WriteCase {
             (true, true) => i < j,
             _ => early.row < late.row && early.row > 0,
         };
-        if !ordered {
+        if !ordered || ![early, late].iter().all(|change| rows.contains(&change.row)) {
             continue;
         }
         let mut spoil =
@@ -565,7 +566,7 @@ fn double(r: &mut Random) -> WriteCase {
 }
 
 /// Changes without a plan.
-fn blind(r: &mut Random) -> WriteCase {
+pub(super) fn blind(r: &mut Random) -> WriteCase {
     let mut list = List::random(r);
     for _ in 0..r.from(1, 3) {
         let numbers = if r.once_in(2) { &mut list.addresses } else { &mut list.sizes };
@@ -600,7 +601,7 @@ pub fn write_case(seed: u64, number: u64) -> WriteCase {
             WriteCase { name: "valid".to_owned(), list, expected: Taken }
         }
         2..=6 => single(&mut r, &CHANGES[(round * 5 + kind - 2) as usize % CHANGES.len()]),
-        7 | 8 => double(&mut r),
+        7 | 8 => double(&mut r, 1..=6),
         _ => blind(&mut r),
     }
 }

@@ -1,9 +1,10 @@
-//! Calls made up from a seed: valid modules and lists, and damages on both sides of every limit.
+//! Calls made up from a seed: valid modules, lists and picks, and damages on both sides of every limit.
 //! A case depends on the seed and its number alone.
 
 pub mod damage;
 pub mod list;
 pub mod module;
+pub mod pick;
 pub mod special;
 
 use crate::answers::Call;
