@@ -8,12 +8,6 @@
 #include "guard.h"
 #include "hagolstan.h"
 
-/* Reads a length and as many bytes, which end at end. */
-static int get_bytes(uint8_t *end, uint64_t *length)
-{
-    return get(length, 4) && *length <= ROOM && fread(end - *length, 1, *length, stdin) == *length;
-}
-
 /* Reads a length and pieces, which are put over as many zeros, which end at end. A piece is a unit put down count times, one
  * copy after the other; in copy k each eight bytes of the unit, as a number, have k times their step added. */
 static int get_pieces(uint8_t *end, uint64_t *length)

@@ -1,5 +1,6 @@
-/* run_tagged MODULE RECORD READING LOG_END AGE_AT: loads the nine-hour module into memory that the processor checks by
- * tags, and runs it (aarch64 with MTE). The words are the addresses in the module of two functions and two pointers. */
+/* run_tagged MODULE RECORD READING LOG_END AGE_AT TABLE BYTES: loads the nine-hour module, with tags picked at random, into memory
+ * that the processor checks by tags, and runs it (aarch64 with MTE). The words are the addresses in the module of two functions and
+ * two pointers, where the descriptor table stands in the file, and its bytes. */
 #define _GNU_SOURCE
 #include <setjmp.h>
 #include <signal.h>
@@ -7,6 +8,7 @@
 #include <stdlib.h>
 #include <sys/mman.h>
 #include <sys/prctl.h>
+#include <sys/random.h>
 #include "hagolstan.h"
 
 #define LENGTH 0x80000
@@ -14,9 +16,10 @@
 #define MTE 0x20         /* PROT_MTE */
 #define TAG_FAULT 9      /* SEGV_MTESERR */
 #define TAGGING 55       /* PR_SET_TAGGED_ADDR_CTRL */
+#define MOST 256         /* globals; getrandom gives so many bytes at once */
 #define SYNCHRONOUS (1 | 1 << 1 | 0xfffeul << 3)
 
-static uint8_t file[1 << 24], plane[LENGTH / 16], choices[1 << 16];
+static uint8_t file[1 << 24], plane[LENGTH / 16], choices[MOST];
 static sigjmp_buf back;
 static volatile int fault;
 
@@ -42,18 +45,36 @@ static int fail(const char *what)
     return 1;
 }
 
+/* Picks tags for the globals of a descriptor table; says how many, 0 where it cannot. */
+static size_t pick(const uint8_t *table, size_t length)
+{
+    uint64_t addresses[MOST], sizes[MOST], step[4] = {0}; /* start, granules, next position, end */
+    uint8_t drawn[MOST];
+    size_t globals = 0;
+    while (globals < MOST && hagolstan_step(table, length, step[2], step[3], globals, (uint8_t *)step, sizeof step) == 1) {
+        addresses[globals] = step[0];
+        sizes[globals++] = 16 * step[1];
+    }
+    if (getrandom(drawn, globals, 0) != (ssize_t)globals)
+        return 0;
+    uint64_t answer = hagolstan_pick_tags(addresses, globals, sizes, globals, drawn, globals, 0, choices, globals);
+    return HAGOLSTAN_REFUSAL(answer) ? 0 : globals;
+}
+
 int main(int count, char **words)
 {
-    uintptr_t at[6];
-    if (count != 6)
+    uintptr_t at[8];
+    if (count != 8)
         return 2;
-    for (int i = 2; i < 6; i++)
+    for (int i = 2; i < 8; i++)
         at[i] = strtoull(words[i], NULL, 16);
     FILE *in = fopen(words[1], "rb");
     if (!in)
         return 2;
     size_t length = fread(file, 1, sizeof file, in);
     fclose(in);
+    if (at[6] > length || at[7] > length - at[6])
+        return 2;
 
     uint8_t *room = mmap(NULL, LENGTH + ALIGN, PROT_READ | PROT_WRITE | PROT_EXEC | MTE, MAP_PRIVATE | MAP_ANONYMOUS, -1, 0);
     if (room == MAP_FAILED || prctl(TAGGING, SYNCHRONOUS, 0, 0, 0) != 0) {
@@ -62,9 +83,7 @@ int main(int count, char **words)
     }
     uint8_t *memory = room + (ALIGN - (uintptr_t)room % ALIGN) % ALIGN;
     uintptr_t bias = (uintptr_t)memory;
-    size_t globals = HAGOLSTAN_GLOBALS(hagolstan_facts(file, length));
-    for (size_t i = 0; i < globals; i++)
-        choices[i] = (uint8_t)(1 + 7 * i % 15);
+    size_t globals = pick(file + at[6], at[7]);
     if (HAGOLSTAN_REFUSAL(hagolstan_load(file, length, bias, memory, LENGTH, plane, sizeof plane, choices, globals)))
         return fail("the module is refused");
     struct sigaction action = {.sa_sigaction = on_fault, .sa_flags = SA_SIGINFO};

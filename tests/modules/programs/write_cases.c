@@ -7,17 +7,6 @@
 #include "guard.h"
 #include "hagolstan.h"
 
-/* Reads a count and as many numbers, which end at end. */
-static int get_list(uint64_t *end, uint64_t *count)
-{
-    if (!get(count, 4) || *count > ROOM / 8)
-        return 0;
-    for (uint64_t *at = end - *count; at < end; at++)
-        if (!get(at, 8))
-            return 0;
-    return 1;
-}
-
 int main(void)
 {
     uint64_t *addresses_end = (uint64_t *)(void *)guarded_end(), *sizes_end = (uint64_t *)(void *)guarded_end();
@@ -33,13 +22,7 @@ int main(void)
         uint64_t answer = hagolstan_write_table(addresses ? addresses_end - addresses : NULL, addresses,
                                                 sizes ? sizes_end - sizes : NULL, sizes, length ? buffer : NULL, length);
         printf("%llu ", (unsigned long long)answer);
-        if (length > 64)
-            printf("#%08x", (unsigned)crc(buffer, length));
-        else if (length == 0)
-            printf("-");
-        else
-            for (size_t i = 0; i < length; i++)
-                printf("%02x", buffer[i]);
+        show(buffer, length);
         printf("\n");
     }
     return 0;
