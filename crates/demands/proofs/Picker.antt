@@ -21,7 +21,8 @@ use Rattle.rules.proofs.OutcomeLaws.{good-bad, bad-good, true-false, and-left, 
 use Rattle.rules.proofs.BoolLaws.{cond-case}
 use Rattle.rules.proofs.FirstLaws.{first-below}
 use Rattle.laws.proofs.Checks.{require-stopped}
-use Rattle.laws.proofs.Picks.{endAt, tagAt, picks-index, picks-length, pick-low, pick-suits, pick-near, pick-is, allowed-least, enough-suits, needed-most, barred-why}
+use Rattle.laws.proofs.Picks.{endAt, tagAt, picks-index, picks-length, pick-low, pick-suits, pick-near, pick-is}
+use Rattle.laws.proofs.Picks.{allowed-least, enough-suits, needed-most, barred-why}
 use Rattle.laws.proofs.Picks.{count-some, count-two}
 use Rattle.demands.specs.Table.{listed}
 use Rattle.demands.specs.Demands.{Exactly}

@@ -156,8 +156,9 @@ unfolding pickOf
 pick-later x s l h some =
     let e : tagUp s 0 ≡ s = omega arith in
     let two = up x 0 s some ((s + 1) % tagCount) in
+    let free : suits x 0 (tagUp s (0 + 1 + two)) ≡ true = rw (← up-one s two) (up-free x 0 s some ((s + 1) % tagCount)) in
     let r = second-pick x 0 s 0 two (upTo s (some .tag)) (λ j k. absurd (omega arith)) (rw (e, suits-untagged x s) h)
-    (rw e (up-none x 0 s some ((s + 1) % tagCount))) (λ _. rw (← up-one s two) (up-free x 0 s some ((s + 1) % tagCount))) (omega arith) (far-fits x 0 s some) in
+    (rw e (up-none x 0 s some ((s + 1) % tagCount))) (λ _. free) (omega arith) (far-fits x 0 s some) in
     rw e at r
 
 -- only the start counts
