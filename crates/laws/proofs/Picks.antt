@@ -127,9 +127,6 @@ allowed-least x tag h =
     let n = eqb-false tag 0 (not-true (eqb tag 0) (and-left (not (eqb tag 0)) _ h)) in
     omega arith
 
-pub other-suits : (x b : ℕ) (o : Other (allowed x) tagCount b) → suits x b (o .index) ≡ true
-other-suits x b o = rw (o .holds, ne-eqb (o .index) b (o .other))
-
 -- ---- as many tags as are needed
 
 module _ (addresses sizes : List ℕ) where
