@@ -1,5 +1,7 @@
 // How many items share no byte, told by a map of the words that their places fill: one pass, and a bit a word. It tells as far as the places
 // are a whole number of words apart and none fills a word that an earlier one does; behind that a search has to.
+#![tactic(auto)]
+
 ghost use Rattle.std.specs.Prelude.{◌≡◌, true, not, ◌+◌, ◌*◌, ◌-◌, ◌≤◌, ◌<◌, eqb, length};
 ghost use Rattle.rules.specs.Bytes.{le};
 ghost use Rattle.items.specs.Table.{Inside, Bounded};

@@ -1,4 +1,6 @@
 // Runs the unmarked cases of the bench sheet, and the words and tables of the marked ones, and writes a line for each.
+#![tactic(auto)]
+
 use bench_images::SHEET_PLACE;
 use bench_runs::BIAS;
 

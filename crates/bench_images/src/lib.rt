@@ -1,4 +1,6 @@
 // Images for the bench sheet: one writable PT_LOAD from address 0 on, the sheet's three globals, RELATIVE or packed relocations.
+#![tactic(auto)]
+
 ghost use Rattle.std.specs.Prelude.{◌≡◌, ◌+◌, ◌*◌};
 ghost use Rattle.rules.specs.Memory.{put_word};
 

@@ -1,4 +1,6 @@
 // Loads images at the limits and one past them, and writes a line for each.
+#![tactic(auto)]
+
 use bench_images::LONG_FILE;
 use bench_runs::BIAS;
 use libc::STDOUT_FILENO;

@@ -1,4 +1,6 @@
 // The lines that the bench writes: of a load, of a number, of a descriptor and of a table.
+#![tactic(auto)]
+
 use libc::STDOUT_FILENO;
 use rules::encoding::Uleb;
 use rules::{Cursor, Facts, Refusal, Step, TableAnswer};

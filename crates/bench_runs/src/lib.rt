@@ -1,4 +1,6 @@
 // Loads an image of the bench sheet, and writes a line for it.
+#![tactic(auto)]
+
 use bench_images::SHEET_PLACE;
 use libc::STDOUT_FILENO;
 use rules::{Answer, GRANULE, ModuleAnswer};

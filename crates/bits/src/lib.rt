@@ -1,4 +1,6 @@
 // A map of words of memory, a bit each.
+#![tactic(auto)]
+
 ghost use Rattle.std.specs.Prelude.{◌≡◌, false, ◌+◌, ◌/◌, ◌%◌, ◌^◌, ◌<◌, eqb, length};
 ghost use Rattle.bits.specs.Bits.{has, with_word};
 

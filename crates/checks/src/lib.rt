@@ -1,4 +1,6 @@
 // Checks 10 to 14 of a module that was read.
+#![tactic(auto)]
+
 ghost use Rattle.std.specs.Prelude.{◌≡◌};
 ghost use Rattle.rules.specs.Outcome.{good};
 ghost use Rattle.rules.specs.Checks.{checked};

@@ -1,4 +1,6 @@
 // Items in which nothing is wrong: told by few tests, without a search. What is not told here is judged by itself.
+#![tactic(auto)]
+
 ghost use Rattle.std.specs.Prelude.{◌≡◌, ◌+◌, ◌*◌, ◌%◌, ◌^◌, ◌<◌, ◌≤◌, true, false, ◌&&◌, length, pos, ◌+ℤ◌, ◌==◌};
 ghost use Rattle.rules.specs.Outcome.{good};
 ghost use Rattle.rules.specs.Memory.{signed};

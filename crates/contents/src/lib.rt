@@ -1,4 +1,6 @@
 // Checks 7, 15, 8, 16 and 9: the tables that the dynamic table names, and the module with them.
+#![tactic(auto)]
+
 ghost use Rattle.std.specs.Prelude.{◌≡◌};
 ghost use Rattle.rules.specs.Answers.{of_module};
 ghost use Rattle.contents.specs.Stages.{globals_stage, packed_stage, tables_stage};

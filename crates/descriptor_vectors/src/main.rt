@@ -2,6 +2,8 @@
 //
 // A case is the table's length (4 bytes), the table, and the position, the last end and the index to report
 // (8 bytes each).
+#![tactic(auto)]
+
 ghost use Rattle.std.specs.Prelude.{◌+◌, ◌≤◌, ◌<◌, length};
 
 use libc::{STDIN_FILENO, STDOUT_FILENO};

@@ -1,4 +1,6 @@
 // One global descriptor as plain numbers, with a short path for most.
+#![tactic(auto)]
+
 ghost use Rattle.std.specs.Prelude.{◌≡◌};
 ghost use Rattle.rules.specs.Descriptors.{step_at, reading_of};
 ghost use Rattle.descriptors.specs.Short.{ShortAt};

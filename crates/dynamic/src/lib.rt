@@ -1,4 +1,6 @@
 // Check 5: PT_DYNAMIC.
+#![tactic(auto)]
+
 ghost use Rattle.std.specs.Prelude.{◌≡◌, ◌-◌, ◌≤◌};
 ghost use Rattle.rules.specs.Dynamic.{is_dynamic_at, dynamic_from, is_null_at, null_entry, good_size, dynamic_at, dynamic_of};
 ghost use Rattle.rules.specs.Answers.{of_dynamic};

@@ -1,4 +1,6 @@
 // The ELF reader as a whole: checks 1 to 7, 15, 8, 16 and 9 of a file.
+#![tactic(auto)]
+
 ghost use Rattle.std.specs.Prelude.{◌≡◌};
 ghost use Rattle.rules.specs.Reader.{module_of};
 ghost use Rattle.rules.specs.Answers.{of_module};

@@ -1,4 +1,6 @@
 // Check 6: the dynamic entries.
+#![tactic(auto)]
+
 ghost use Rattle.std.specs.Prelude.{◌≡◌, ◌<◌};
 ghost use Rattle.rules.specs.First.{faultless, some_below};
 ghost use Rattle.rules.specs.Dynamic.{tag_at, value_at, known_tags, row_at, allows, row_of, tag_before, bad_entry, has_tag};

@@ -1,5 +1,7 @@
 // Checks 10, 11 and 13 of the entries of the RELA table, each by itself: the lowest with a fault of its own, and what is found of those
 // before it.
+#![tactic(auto)]
+
 ghost use Rattle.std.specs.Prelude.{◌≡◌, true, ◌≤◌, ◌<◌};
 ghost use Rattle.rules.specs.Relocations.{place_at};
 ghost use Rattle.items.specs.Table.{Inside};

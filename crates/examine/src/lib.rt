@@ -1,4 +1,6 @@
 // Examine: every check of a file before 12, and the facts.
+#![tactic(auto)]
+
 ghost use Rattle.std.specs.Prelude.{◌≡◌};
 ghost use Rattle.rules.specs.Examine.{mode_of, switch_of, facts_of, examined_of};
 ghost use Rattle.rules.specs.Relocations.{words_of};

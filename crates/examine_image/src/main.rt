@@ -1,4 +1,6 @@
 // Examines an image from standard input, and writes its globals or the refusal.
+#![tactic(auto)]
+
 ghost use Rattle.std.specs.Prelude.{◌≡◌};
 ghost use Rattle.rules.specs.Outcome.{bad};
 ghost use Rattle.rules.specs.Answers.{of_answer};

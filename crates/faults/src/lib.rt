@@ -1,4 +1,6 @@
 // Checks 10, 11 and 13 of the items, each by itself: the entries, then the packed places.
+#![tactic(auto)]
+
 ghost use Rattle.std.specs.Prelude.{◌≡◌, ◌≤◌, ◌<◌};
 ghost use Rattle.rules.specs.Relocations.{items, position_at};
 ghost use Rattle.places.specs.Ahead.{Here};

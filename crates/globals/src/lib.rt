@@ -1,4 +1,6 @@
 // Checks 8, 16 and 9: the walk over global descriptors.
+#![tactic(auto)]
+
 ghost use Rattle.std.specs.Prelude.{◌≡◌};
 ghost use Rattle.rules.specs.Limits.{global_limit};
 ghost use Rattle.rules.specs.Outcome.{good, refuse, and_then};

@@ -1,4 +1,6 @@
 // The calls that a C host makes.
+#![tactic(auto)]
+
 ghost use Rattle.std.specs.Prelude.{◌≡◌};
 ghost use Rattle.rules.specs.Examine.{examined_of};
 ghost use Rattle.rules.specs.Descriptors.{step_at};

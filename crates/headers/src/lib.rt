@@ -1,4 +1,6 @@
 // Checks 1 to 3: the file's length, identification and header.
+#![tactic(auto)]
+
 ghost use Rattle.std.specs.Prelude.{◌≡◌, ◌<◌, get_or};
 ghost use Rattle.rules.specs.Headers.{size_check, identification, identification_check, good_header, header_check, header_checks, headers_of};
 ghost use Rattle.rules.specs.Checks.{runs};

@@ -1,4 +1,6 @@
 // The entries of the RELA table: an entry's fields, and its target.
+#![tactic(auto)]
+
 ghost use Rattle.std.specs.Prelude.{◌≡◌, ◌||◌, ◌+◌, eqb};
 ghost use Rattle.rules.specs.Bytes.{le};
 ghost use Rattle.rules.specs.Relocations.{abs64, glob_dat, entry_at, symbol_backing, symbol_of, target_of, named_target, target, barred};

@@ -1,4 +1,6 @@
 // Checks 10, 11 and 13 of one item by itself: an entry of the RELA table, or a packed place.
+#![tactic(auto)]
+
 ghost use Rattle.std.specs.Prelude.{◌≡◌, true, ℕ, ◌≤◌, ◌<◌};
 ghost use Rattle.rules.specs.Outcome.{good};
 ghost use Rattle.rules.specs.Segments.{loads_check};

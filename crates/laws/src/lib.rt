@@ -1,1 +1,2 @@
 // Laws of the rules, with no function.
+#![tactic(auto)]

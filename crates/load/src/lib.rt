@@ -1,4 +1,6 @@
 // The load: every check before the first byte is written; then segments, tags, words.
+#![tactic(auto)]
+
 ghost use Rattle.std.specs.Prelude.{◌≡◌, length};
 ghost use Rattle.rules.specs.Answers.{of_answer};
 ghost use Rattle.demands.specs.Calls.{Call, buffers};

@@ -1,4 +1,6 @@
 // *P: a place's eight bytes as they are loaded, read from the file before memory is touched.
+#![tactic(auto)]
+
 ghost use Rattle.std.specs.Prelude.{◌≡◌, ◌<◌};
 ghost use Rattle.rules.specs.Outcome.{good};
 ghost use Rattle.rules.specs.Segments.{loads_check, backing_of};

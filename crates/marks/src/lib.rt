@@ -1,4 +1,6 @@
 // A map of places of eight bytes each that share no byte.
+#![tactic(auto)]
+
 ghost use Rattle.std.specs.Prelude.{◌≡◌, false, ◌+◌, ◌/◌, ◌%◌, ◌≤◌, ◌<◌, length};
 ghost use Rattle.marks.specs.Map.{code_at, looks, hit, weight_of, marked, Within};
 

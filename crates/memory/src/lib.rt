@@ -1,4 +1,6 @@
 // Writes to lent memory. Each function takes any position: what would fall past the end is left out.
+#![tactic(auto)]
+
 ghost use Rattle.std.specs.Prelude.{◌≡◌, ◌+◌, ◌≤◌, min, length, replicate};
 ghost use Rattle.rules.specs.Memory.{over, put, put_word};
 

@@ -1,4 +1,6 @@
 // The load with its answer as one number.
+#![tactic(auto)]
+
 ghost use Rattle.demands.specs.Calls.{buffers};
 ghost use Rattle.packing.specs.Exported.{Exported};
 

@@ -1,4 +1,6 @@
 // The picker with its answer as one number.
+#![tactic(auto)]
+
 ghost use Rattle.packing.specs.Exported.{PicksExported};
 
 use rules::PicksAnswer;

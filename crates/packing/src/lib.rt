@@ -1,4 +1,6 @@
 // Answers as numbers and words: a refusal, the facts, a descriptor that was read.
+#![tactic(auto)]
+
 ghost use Rattle.std.specs.Prelude.{◌≡◌, ◌≤◌, ◌<◌};
 ghost use Rattle.rules.specs.Outcome.{good};
 ghost use Rattle.rules.specs.Descriptors.{global, step_at};

@@ -1,4 +1,6 @@
 // The file part of a PT_LOAD, found once and asked again: bytes that it covers are found by one sum.
+#![tactic(auto)]
+
 ghost use Rattle.std.specs.Prelude.{◌≡◌, not, ◌&&◌, ◌||◌, ◌<◌};
 ghost use Rattle.rules.specs.Outcome.{good};
 ghost use Rattle.rules.specs.Segments.{loads_check, writable, backs};

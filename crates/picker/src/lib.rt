@@ -1,4 +1,6 @@
 // Picks a tag for each global of a list.
+#![tactic(auto)]
+
 ghost use Rattle.std.specs.Prelude.{◌≡◌, not, ◌&&◌, ◌≤◌, leb, eqb, length};
 ghost use Rattle.rules.specs.Outcome.{good, refuse};
 ghost use Rattle.rules.specs.First.{some_below};

@@ -1,4 +1,6 @@
 // The packed places one after the other: the words of a packed table, read as their places are asked for.
+#![tactic(auto)]
+
 ghost use Rattle.std.specs.Prelude.{◌≡◌, ◌%◌, ◌<◌, length};
 ghost use Rattle.rules.specs.Packed.{packed_word};
 ghost use Rattle.places.specs.Ahead.{ahead, Standing, Next};

@@ -1,4 +1,6 @@
 // Check 12, and the segments placed in memory.
+#![tactic(auto)]
+
 ghost use Rattle.std.specs.Prelude.{◌≡◌, cond, ◌&&◌, max, length, replicate};
 ghost use Rattle.rules.specs.Segments.{header_at, is_load, largest_align};
 ghost use Rattle.rules.specs.Lending.{bias_fits, memory_fits, plane_fits, lending_check};

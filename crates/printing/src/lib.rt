@@ -1,4 +1,6 @@
 // Writes the globals of a file to standard output.
+#![tactic(auto)]
+
 ghost use Rattle.std.specs.Prelude.{◌≡◌, length};
 ghost use Rattle.rules.specs.Outcome.{good};
 ghost use Rattle.rules.specs.Reader.{module_of};

@@ -1,4 +1,6 @@
 // Check 4: the PT_LOADs.
+#![tactic(auto)]
+
 ghost use Rattle.std.specs.Prelude.{◌≡◌, false, cond, not, ◌&&◌, ◌+◌};
 ghost use Rattle.rules.specs.Segments.{is_load, power_below_lem, aligned, good_load, loads_check};
 ghost use Rattle.rules.specs.Answers.{of_checked};

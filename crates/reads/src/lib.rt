@@ -1,4 +1,6 @@
 // Total reads of a list of bytes, and exact comparisons of sums.
+#![tactic(auto)]
+
 ghost use Rattle.std.specs.Prelude.{◌≡◌, ◌&&◌, ◌+◌, ◌≤◌, ◌<◌, leb, length, get_or};
 ghost use Rattle.rules.specs.Bytes.{le, part};
 ghost use Rattle.rules.specs.Segments.{covers};

@@ -1,4 +1,6 @@
 // The words of the entries of the RELA table, written to memory.
+#![tactic(auto)]
+
 ghost use Rattle.std.specs.Prelude.{◌≡◌, ℕ, ◌+◌, ◌-◌, ◌≤◌, length};
 ghost use Rattle.rules.specs.Bytes.{le};
 ghost use Rattle.rules.specs.declared.Module.{Module};

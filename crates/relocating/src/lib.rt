@@ -1,4 +1,6 @@
 // The words of the relocations, written to memory: those of the entries, then those of the packed places.
+#![tactic(auto)]
+
 ghost use Rattle.std.specs.Prelude.{◌≡◌};
 ghost use Rattle.rules.specs.Bytes.{le};
 ghost use Rattle.rules.specs.Memory.{put_word};

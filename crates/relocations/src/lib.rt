@@ -1,4 +1,6 @@
 // Checks 10 and 11: the items in their order; and what check 13 and the facts need of them.
+#![tactic(auto)]
+
 ghost use Rattle.std.specs.Prelude.{◌≡◌};
 ghost use Rattle.rules.specs.Outcome.{refuse};
 ghost use Rattle.rules.specs.Answers.{of_walk};

@@ -1,4 +1,6 @@
 // Check 15: the table of packed relocations.
+#![tactic(auto)]
+
 ghost use Rattle.std.specs.Prelude.{◌≡◌};
 ghost use Rattle.rules.specs.Packed.{packed_of};
 ghost use Rattle.rules.specs.Answers.{of_packed};

@@ -1,4 +1,6 @@
 // The lowest item whose place shares a byte with an earlier one's: the places are put into a map one after the other.
+#![tactic(auto)]
+
 ghost use Rattle.std.specs.Prelude.{◌≡◌, true, ℕ, ◌+◌, ◌-◌, ◌≤◌, ◌<◌, length};
 ghost use Rattle.rules.specs.Limits.{memory_limit};
 ghost use Rattle.rules.specs.Packed.{packed_before};

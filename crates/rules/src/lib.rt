@@ -1,4 +1,5 @@
 // The types that the layers share. The rules themselves are the definitions in specs/, a file for each topic of document 01.
+#![tactic(auto)]
 
 // Global descriptors: the reading of one at a cursor. A method stands in the crate of its struct.
 pub mod encoding;

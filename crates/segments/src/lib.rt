@@ -1,4 +1,6 @@
 // The program headers one by one: where bytes are backed, and which PT_LOAD holds them.
+#![tactic(auto)]
+
 ghost use Rattle.std.specs.Prelude.{◌≡◌, false, true, cond, ◌+◌, ◌<◌, leb};
 ghost use Rattle.rules.specs.Segments.{header_at, is_load, loads_end, backs_at, backing_in, backing_of, holds_at};
 ghost use Rattle.segments.specs.Spans.{Sound, Held};

@@ -1,4 +1,6 @@
 // Check 7: the relocation and descriptor tables.
+#![tactic(auto)]
+
 ghost use Rattle.std.specs.Prelude.{◌≡◌};
 ghost use Rattle.rules.specs.Dynamic.{entry_of};
 ghost use Rattle.rules.specs.Tables.{or_zero, table_backing, relocations_of, descriptors_of};

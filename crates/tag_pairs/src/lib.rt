@@ -1,4 +1,6 @@
 // The tags that a mask allows, and a table of which to pick from each start.
+#![tactic(auto)]
+
 ghost use Rattle.std.specs.Prelude.{◌≡◌, cond, ℕ, ◌+◌, ◌*◌, ◌≤◌, ◌<◌};
 ghost use Rattle.rules.specs.Picker.{tag_count, allowed, pick_of, tags_allowed};
 ghost use Rattle.tag_pairs.specs.Pairs.{Suited, Pairs};

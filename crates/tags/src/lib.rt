@@ -1,4 +1,6 @@
 // Check 14, and the tag plane: each global's granules take its choice.
+#![tactic(auto)]
+
 ghost use Rattle.std.specs.Prelude.{◌≡◌, length, get_or, replicate};
 ghost use Rattle.rules.specs.Outcome.{good, refuse};
 ghost use Rattle.rules.specs.Descriptors.{table_start, descriptor_table, globals_of};

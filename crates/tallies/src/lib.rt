@@ -1,4 +1,6 @@
 // What is found of the items that were seen: how many words they relocate, the first address out of range, the bounds of their places.
+#![tactic(auto)]
+
 ghost use Rattle.std.specs.Prelude.{◌≡◌, true, false, ℕ, ◌+◌, ◌≤◌, ◌<◌, leb};
 ghost use Rattle.tallies.specs.Tallies.{mark_after, Rises, Tallies};
 

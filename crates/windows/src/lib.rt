@@ -1,4 +1,6 @@
 // The places of a window of memory, met one after the other: which entry is the first that shares a byte with an earlier one.
+#![tactic(auto)]
+
 ghost use Rattle.std.specs.Prelude.{◌≡◌, ◌+◌, ◌*◌, ◌≤◌, length};
 ghost use Rattle.rules.specs.Bytes.{le};
 ghost use Rattle.rules.specs.declared.Module.{Module};

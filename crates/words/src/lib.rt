@@ -1,4 +1,6 @@
 // The word that a relocation writes: its address, and the granule that its tag is taken from.
+#![tactic(auto)]
+
 ghost use Rattle.std.specs.Prelude.{◌≡◌, ◌/◌, pos, ◌+ℤ◌, if◌then◌else◌, nat_lt, slice_index};
 ghost use Rattle.rules.specs.Limits.{granule};
 ghost use Rattle.rules.specs.Memory.{signed, mod64};

@@ -1,4 +1,6 @@
 // Writes the descriptor table of a list of globals.
+#![tactic(auto)]
+
 ghost use Rattle.std.specs.Prelude.{◌≡◌, cond, ◌+◌, ◌*◌, ◌≤◌, ◌<◌, length, get_or};
 ghost use Rattle.rules.specs.Outcome.{good, refuse};
 ghost use Rattle.rules.specs.Limits.{address_limit, granule};
