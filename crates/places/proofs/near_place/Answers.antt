@@ -1,0 +1,20 @@
+-- No bit is passed over: the lowest left names the first place ahead.
+-- Assumes nothing.
+use Rattle.std.proofs.Common.{arith}
+use Rattle.places.proofs.Laws.{passing_none, passing_left, reading_start, passing_found, next_start}
+use Rattle.places.proofs.near_place.Goals as goal
+
+pub overflow_sub-result : goal.overflow_sub-result
+overflow_sub-result c =
+    let k = c.args.c in
+    let odd = c.requires.2 in
+    passing_left (passing_none k.rest k.left k.at (omega arith) c.requires.0.bits)
+
+pub returns : goal.returns
+returns c =
+    let a = c.args in
+    let k = a.c in
+    let odd = c.requires.2 in
+    next_start a.f.now a.t k
+    (passing_found a.f.now a.t (reading_start a.f.now a.t k c.requires.0 c.requires.1) (λ z. omega arith)
+    (passing_none k.rest k.left k.at (omega arith) c.requires.0.bits) (λ z. omega arith))

@@ -1,0 +1,8 @@
+-- Two halves, by `le_split`.
+-- Assumes nothing.
+use Rattle.rules.proofs.BytesLaws.{le_split}
+use native.Mathlib.Omega.{arith}
+use Rattle.reads.proofs.le32.Goals as goal
+
+pub returns : goal.returns
+returns c = let a = c.args in omega (arith, le_split 2 2 a.s.now a.at)
