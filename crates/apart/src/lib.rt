@@ -12,7 +12,7 @@ use places::START;
 use rules::Module;
 
 // The items before one are told apart. Where there is one, its place is given: it was not told apart from them.
-#[derive(Drop)]
+#[derive(Clone, Copy)]
 pub struct Told {
     pub item: u32,
     pub place: u64,

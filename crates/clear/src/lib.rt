@@ -19,7 +19,7 @@ use rules::{ADDRESS_LIMIT, Entry, Headers, Module, Target};
 use segments::Span;
 
 // The symbols of the file part that has the first one: where they begin in the file, and how many they are.
-#[derive(Drop)]
+#[derive(Clone, Copy)]
 pub struct Near {
     pub at: u32,
     pub count: u32,

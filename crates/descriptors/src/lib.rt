@@ -8,7 +8,7 @@ ghost use Rattle.descriptors.specs.Short.{ShortAt};
 use rules::{ADDRESS_LIMIT, Cursor, GRANULE, RADIX, Reading, SIZES, encoding};
 
 // A number of one or two bytes in shortest form, and the position after it; 0 where there is none such.
-#[derive(Drop)]
+#[derive(Clone, Copy)]
 struct Short {
     value: u64,
     next: u64,

@@ -16,14 +16,14 @@ use segments::{NO_SPAN, Span};
 use tallies::{NOTHING, Tally};
 
 // How far the items are passed over, and what is found of them.
-#[derive(Drop)]
+#[derive(Clone, Copy)]
 pub struct Passed {
     pub item: u32,
     pub tally: Tally,
 }
 
 // The lowest item with a fault, and what is found of those before it.
-#[derive(Drop)]
+#[derive(Clone, Copy)]
 pub struct Seen {
     // It, or how many items there are.
     pub item: u32,

@@ -13,7 +13,7 @@ use rules::{Address, Headers, Module, Target};
 use segments::{NO_SPAN, Span};
 
 // What is found of one item.
-#[derive(Drop)]
+#[derive(Clone, Copy)]
 pub struct Judged {
     // 0, 10 or 11.
     pub number: u8,

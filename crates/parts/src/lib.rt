@@ -10,7 +10,7 @@ use rules::{FILE_LIMIT, Headers, Segment};
 use segments::PT_LOAD;
 
 // The size bytes from the address start on stand at a position of the file; size 0 for none.
-#[derive(Drop)]
+#[derive(Clone, Copy)]
 pub struct Part {
     pub start: u64,
     pub size: u64,

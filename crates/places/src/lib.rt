@@ -14,7 +14,7 @@ const WORD_BYTES: usize = 8;
 const BITMAP_BITS: u64 = 63;
 
 // Where reading packed places stands.
-#[derive(Drop)]
+#[derive(Clone, Copy)]
 pub struct Run {
     // How many words have been read.
     pub words: u32,

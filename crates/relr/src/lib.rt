@@ -15,7 +15,7 @@ use rules::{
 const WORD_BYTES: u64 = 8;
 
 // How many places the words of a table name, or check 15 of its first bad word.
-#[derive(Drop)]
+#[derive(Clone, Copy)]
 pub enum CountAnswer {
     Found(u32),
     Refused(Refusal),

@@ -15,7 +15,7 @@ use places::START;
 use rules::Module;
 
 // The lowest item that repeats, and the position at which it is reported.
-#[derive(Drop)]
+#[derive(Clone, Copy)]
 pub struct Lowest {
     pub item: u32,
     pub position: u64,

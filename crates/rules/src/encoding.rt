@@ -9,14 +9,14 @@ ghost use Rattle.rules.specs.Numbers.{of_uleb, of_found, second_at};
 use crate::{ADDRESS_LIMIT, Cursor, GRANULE, Global, RADIX, Refusal, SIZES, Step};
 
 // A ULEB128 number with the position after it, or none.
-#[derive(Drop)]
+#[derive(Clone, Copy)]
 pub enum Uleb {
     Number(u64, usize),
     Malformed,
 }
 
 // What one step finds, as plain numbers: number is that of a refusal, or 0; granules are those of a global, or 0 at the table's end.
-#[derive(Drop)]
+#[derive(Clone, Copy)]
 pub struct Found {
     pub number: u8,
     pub start: u64,

@@ -85,21 +85,21 @@ pub const NEVER: Refusal = Refusal {
 };
 
 // Why a call was refused: document 01's number and position.
-#[derive(Drop)]
+#[derive(Clone, Copy)]
 pub struct Refusal {
     pub number: u8,
     pub position: u64,
 }
 
 // Where the program header table stands in the file, and how many headers it has.
-#[derive(Drop)]
+#[derive(Clone, Copy)]
 pub struct Headers {
     pub table: u32,
     pub count: u32,
 }
 
 // One program header.
-#[derive(Drop)]
+#[derive(Clone, Copy)]
 pub struct Segment {
     pub kind: u32,
     pub flags: u32,
@@ -111,28 +111,28 @@ pub struct Segment {
 }
 
 // Where bytes at an address stand in the file.
-#[derive(Drop)]
+#[derive(Clone, Copy)]
 pub enum Backing {
     At(u32),
     Nowhere,
 }
 
 // Where the dynamic table stands in the file, and how many entries come before the first DT_NULL.
-#[derive(Drop)]
+#[derive(Clone, Copy)]
 pub struct Dynamic {
     pub at: u32,
     pub entries: u32,
 }
 
 // The value of a dynamic entry.
-#[derive(Drop)]
+#[derive(Clone, Copy)]
 pub enum Entry {
     Absent,
     Value(u64),
 }
 
 // Which values of a dynamic entry are allowed.
-#[derive(Drop)]
+#[derive(Clone, Copy)]
 pub enum Allowed {
     Any,
     Exactly24,
@@ -144,7 +144,7 @@ pub enum Allowed {
 }
 
 // A row of the table of known dynamic tags. Rows of one group are partners; a group goes by its first tag.
-#[derive(Drop)]
+#[derive(Clone, Copy)]
 pub struct Known {
     pub tag: u64,
     pub group: u64,
@@ -152,14 +152,14 @@ pub struct Known {
 }
 
 // Where the relocation table stands in the file, and how many entries it has.
-#[derive(Drop)]
+#[derive(Clone, Copy)]
 pub struct Relocations {
     pub at: u32,
     pub entries: u32,
 }
 
 // Where the packed table stands in the file, how many words it has, and how many places they stand for.
-#[derive(Drop)]
+#[derive(Clone, Copy)]
 pub struct Packed {
     pub at: u32,
     pub words: u32,
@@ -167,28 +167,28 @@ pub struct Packed {
 }
 
 // Where the descriptor table stands in the file, and how many bytes it has.
-#[derive(Drop)]
+#[derive(Clone, Copy)]
 pub struct Descriptors {
     pub at: u32,
     pub bytes: u32,
 }
 
 // A described global: its first address and its granules of 16 bytes.
-#[derive(Drop)]
+#[derive(Clone, Copy)]
 pub struct Global {
     pub start: u64,
     pub granules: u64,
 }
 
 // Where reading descriptors stands: a position in the table, and the last global's end.
-#[derive(Drop)]
+#[derive(Clone, Copy)]
 pub struct Cursor {
     pub position: u64,
     pub end: u64,
 }
 
 // A global that was read and the cursor after it, as plain numbers; no granules where none was read.
-#[derive(Drop)]
+#[derive(Clone, Copy)]
 pub struct Reading {
     pub start: u64,
     pub granules: u64,
@@ -197,7 +197,7 @@ pub struct Reading {
 }
 
 // What the ELF reader finds in a file that passes checks 1 to 7, 15, 8, 16 and 9. The symbol table is known by its address.
-#[derive(Drop)]
+#[derive(Clone, Copy)]
 pub struct Module {
     pub headers: Headers,
     pub dynamic: Dynamic,
@@ -209,7 +209,7 @@ pub struct Module {
 }
 
 // A symbol's fields that a relocation uses.
-#[derive(Drop)]
+#[derive(Clone, Copy)]
 pub struct Symbol {
     pub info: u8,
     pub section: u16,
@@ -217,7 +217,7 @@ pub struct Symbol {
 }
 
 // What a relocation refers to.
-#[derive(Drop)]
+#[derive(Clone, Copy)]
 pub enum Target {
     // RELATIVE: the bias.
     Base,
@@ -230,7 +230,7 @@ pub enum Target {
 }
 
 // MEMTAG_MODE.
-#[derive(Drop)]
+#[derive(Clone, Copy)]
 pub enum Mode {
     Absent,
     Synchronous,
@@ -238,7 +238,7 @@ pub enum Mode {
 }
 
 // MEMTAG_HEAP and MEMTAG_STACK.
-#[derive(Drop)]
+#[derive(Clone, Copy)]
 pub enum Switch {
     Absent,
     Off,
@@ -246,7 +246,7 @@ pub enum Switch {
 }
 
 // The facts of a module.
-#[derive(Drop)]
+#[derive(Clone, Copy)]
 pub struct Facts {
     pub mode: Mode,
     pub heap: Switch,
@@ -256,48 +256,48 @@ pub struct Facts {
 }
 
 // The answer of a check that finds nothing out.
-#[derive(Drop)]
+#[derive(Clone, Copy)]
 pub enum Checked {
     Passed,
     Refused(Refusal),
 }
 
 // The answer of checks 1 to 3.
-#[derive(Drop)]
+#[derive(Clone, Copy)]
 pub enum HeadersAnswer {
     Found(Headers),
     Refused(Refusal),
 }
 
 // The answer of check 5.
-#[derive(Drop)]
+#[derive(Clone, Copy)]
 pub enum DynamicAnswer {
     Found(Dynamic),
     Refused(Refusal),
 }
 
 // The answers of check 7.
-#[derive(Drop)]
+#[derive(Clone, Copy)]
 pub enum RelocationsAnswer {
     Found(Relocations),
     Refused(Refusal),
 }
 
-#[derive(Drop)]
+#[derive(Clone, Copy)]
 pub enum DescriptorsAnswer {
     Found(Descriptors),
     Refused(Refusal),
 }
 
 // The answer of check 15.
-#[derive(Drop)]
+#[derive(Clone, Copy)]
 pub enum PackedAnswer {
     Found(Packed),
     Refused(Refusal),
 }
 
 // What reading one descriptor finds: the table's end, or a global and the moved cursor.
-#[derive(Drop)]
+#[derive(Clone, Copy)]
 pub enum Step {
     Finished,
     Global(Global, Cursor),
@@ -305,35 +305,35 @@ pub enum Step {
 }
 
 // How many globals a table lists, in the walk of checks 8, 16 and 9.
-#[derive(Drop)]
+#[derive(Clone, Copy)]
 pub enum GlobalsAnswer {
     Found(u32),
     Refused(Refusal),
 }
 
 // The answer of the writer: the table's length.
-#[derive(Drop)]
+#[derive(Clone, Copy)]
 pub enum TableAnswer {
     Written(u64),
     Refused(Refusal),
 }
 
 // The answer of the picker: how many globals have got a tag.
-#[derive(Drop)]
+#[derive(Clone, Copy)]
 pub enum PicksAnswer {
     Picked(u64),
     Refused(Refusal),
 }
 
 // The answer of the ELF reader, checks 1 to 7, 15, 8, 16 and 9.
-#[derive(Drop)]
+#[derive(Clone, Copy)]
 pub enum ModuleAnswer {
     Found(Module),
     Refused(Refusal),
 }
 
 // The answer of examine and of the load.
-#[derive(Drop)]
+#[derive(Clone, Copy)]
 pub enum Answer {
     Taken(Facts),
     Refused(Refusal),
@@ -341,21 +341,21 @@ pub enum Answer {
 
 // What the walk of what is relocated finds besides: how many words there are, and one more than the position of the first address
 // out of range, or 0 where there is none.
-#[derive(Drop)]
+#[derive(Clone, Copy)]
 pub struct Walked {
     pub words: u32,
     pub outside: u64,
 }
 
 // The answer of checks 10 and 11.
-#[derive(Drop)]
+#[derive(Clone, Copy)]
 pub enum WalkAnswer {
     Found(Walked),
     Refused(Refusal),
 }
 
 // A relocated address, where it is in range.
-#[derive(Drop)]
+#[derive(Clone, Copy)]
 pub enum Address {
     At(u64),
     Outside,

@@ -8,7 +8,7 @@ ghost use Rattle.segments.specs.Spans.{Sound, Held};
 use rules::{Backing, FILE_LIMIT, Headers, Segment};
 
 // The memory part of a PT_LOAD; size 0 for none.
-#[derive(Drop)]
+#[derive(Clone, Copy)]
 pub struct Span {
     pub start: u64,
     pub size: u64,

@@ -7,7 +7,7 @@ ghost use Rattle.tallies.specs.Tallies.{mark_after, Rises, Tallies};
 use judging::Judged;
 
 // What is found of the items so far.
-#[derive(Drop)]
+#[derive(Clone, Copy)]
 pub struct Tally {
     // How many words they relocate.
     pub words: u32,

@@ -20,7 +20,7 @@ returns-then-w-eq0 c =
     let a = c.args in
     next_start a.f.now a.t a.c
     (reading_even a.f.now a.t c.loop-rest.invariant c.loop-rest-test.true c.word_at-w.ensures c.if-w-eq0.true
-    c.wrapping_add_u64.ensures)
+    c.wrapping_add_u64.ensures.value)
 
 pub loop-rest-smaller : goal.loop-rest-smaller
 loop-rest-smaller c =

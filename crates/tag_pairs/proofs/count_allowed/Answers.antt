@@ -18,11 +18,11 @@ pub loop-tag-preserved : goal.loop-tag-preserved
 loop-tag-preserved c =
     let n = count_next (allowed c.args.excluded) c.loop-tag.tag in
     let b = c.loop-tag.invariant.1 in
-    let same = c.is_allowed.ensures in (
+    (
       omega arith,
       ⊎_elim
-          (λ w. let m = rw (sym same ∙ w.0.taken) at n in omega (arith, w.1))
-          (λ w. let m = rw (sym same ∙ w.0.left) at n in omega (arith, w.1))
+          (λ w. let m = rw (sym c.is_allowed.ensures ∙ w.0.taken) at n in omega (arith, w.1))
+          (λ w. let m = rw (sym c.is_allowed.ensures ∙ w.0.left) at n in omega (arith, w.1))
           c.if-is_allowed.branch,
     )
 

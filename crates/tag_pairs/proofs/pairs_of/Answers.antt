@@ -11,7 +11,6 @@ use Rattle.tag_pairs.proofs.pairs_of.Goals as goal
 pub overflow_add-tag : goal.overflow_add-tag
 overflow_add-tag c =
     let low = pick_low c.args.excluded 0 0 in
-    let e = c.first_allowed-tag.ensures in
     omega arith
 
 pub loop-done-init : goal.loop-done-init
@@ -33,20 +32,20 @@ loop-done-preserved c =
     let l = c.loop-done in
     let n = l.invariant.1.0 in
     let x = c.args.excluded in
-    let same = c.is_allowed.ensures in (
+    (
       omega arith,
       (
         rw (length-set, length-set) n,
         λ some. ⊎_elim
             (λ w.
-            let f = filled_allowed x l.done l.tag l.next l.pairs n (omega arith) (l.invariant.1.1 some) (sym same ∙ w.0.taken) in
+            let f = filled_allowed x l.done l.tag l.next l.pairs n (omega arith) (l.invariant.1.1 some) (sym c.is_allowed.ensures ∙ w.0.taken) in
             rw (c.pair.ensures, c.pair-in-loop-done.ensures, w.1, w.2) f)
             (λ w.
-            let f = filled_other x l.done l.tag l.next l.pairs n (omega arith) (l.invariant.1.1 some) some (sym same ∙ w.0.left) in
+            let f = filled_other x l.done l.tag l.next l.pairs n (omega arith) (l.invariant.1.1 some) some (sym c.is_allowed.ensures ∙ w.0.left) in
             rw (c.pair.ensures, c.pair-in-loop-done.ensures, w.1, w.2) f)
             c.if-is_allowed.branch,
       ),
     )
 
 pub returns : goal.returns
-returns c = filled_pairs _ _ _ _ _ (omega arith) (c.loop-done.invariant.1.1 some)
+returns c some = filled_pairs _ _ _ _ _ (omega arith) (c.loop-done.invariant.1.1 some)

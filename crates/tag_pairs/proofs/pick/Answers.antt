@@ -4,7 +4,7 @@ use Rattle.tag_pairs.proofs.Laws.{table_pick}
 use Rattle.tag_pairs.proofs.pick.Goals as goal
 
 pub returns : goal.returns
-returns c =
+returns c x t some =
     let a = c.args in
     rw (c.shift_of-shift.ensures.0, c.row_of.ensures.0)
     (table_pick x a.last a.random a.pairs.now t a.abutting some)

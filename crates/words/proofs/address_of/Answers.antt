@@ -6,6 +6,17 @@ use Rattle.words.proofs.address_of.Goals as goal
 
 pub returns-then-bias-value : goal.returns-then-bias-value
 returns-then-bias-value c =
-    let T = c.target-1.given in
     let A = c.args in
-    rw T.1 (far_out (A.bias + T.0.0) A.addend (omega arith) (omega arith))
+    rw c.in-Defined.is (far_out (A.bias + c.in-Defined.value) A.addend (omega arith) (omega arith))
+
+pub returns-in-Base : goal.returns-in-Base
+returns-in-Base c = rw c.in-Base.is c.offset_address.ensures
+
+pub returns-else-bias-value : goal.returns-else-bias-value
+returns-else-bias-value c = rw c.in-Defined.is c.offset_address-in-Defined.ensures
+
+pub returns-in-Undefined : goal.returns-in-Undefined
+returns-in-Undefined c = rw c.in-Undefined.is c.offset_address-in-Undefined.ensures
+
+pub returns-in-Barred : goal.returns-in-Barred
+returns-in-Barred c = rw c.in-Barred.is c.offset_address-in-Barred.ensures

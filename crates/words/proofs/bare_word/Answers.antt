@@ -7,16 +7,12 @@ use Rattle.words.proofs.bare_word.Goals as goal
 pub returns-in-Base : goal.returns-in-Base
 returns-in-Base c =
     let A = c.args in
-    let e = c.wrapping_add_u64.ensures in
     rw c.in-Base.is (wrap_once A.bias A.addend _ (omega arith) (omega arith))
 
 pub returns-in-Defined : goal.returns-in-Defined
 returns-in-Defined c =
-    let T = c.target-1.given in
     let A = c.args in
-    let d = c.wrapping_add_u64-in-Defined.ensures in
-    let e = c.wrapping_add_u64-in-Defined-2.ensures in
-    rw T.1 (wrap_once (A.bias + T.0.0) A.addend _ (omega arith) (omega arith))
+    rw c.in-Defined.is (wrap_once (A.bias + c.in-Defined.value) A.addend _ (omega arith) (omega arith))
 
 pub returns-in-Undefined : goal.returns-in-Undefined
 returns-in-Undefined c =

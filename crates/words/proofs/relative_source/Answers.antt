@@ -7,5 +7,5 @@ use Rattle.words.proofs.relative_source.Goals as goal
 pub returns : goal.returns
 returns c =
     let A = c.args in
-    wrap_twice A.bias A.addend A.loaded _ _ (omega arith) (omega arith) (omega arith) c.wrapping_add_u64.ensures
-    c.wrapping_add_u64-2.ensures
+    wrap_twice A.bias A.addend A.loaded _ _ (omega arith) (omega arith) (omega arith) c.wrapping_add_u64.ensures.value
+    c.wrapping_add_u64-2.ensures.value

@@ -9,9 +9,8 @@ returns-in-Base c = rw (c.in-Base.is, ← c.relative_source.ensures) c.granule_t
 
 pub returns-in-Defined : goal.returns-in-Defined
 returns-in-Defined c =
-    let T = c.target-1.given in
     let A = c.args in
-    rw T.1 (c.distance_tag.ensures ∙ tag_distance A.plane.now A.bias A.n (A.bias + T.0.0) T.0.0 refl)
+    rw c.in-Defined.is (c.distance_tag.ensures ∙ tag_distance A.plane.now A.bias A.n (A.bias + c.in-Defined.value) c.in-Defined.value refl)
 
 pub returns-in-Undefined : goal.returns-in-Undefined
 returns-in-Undefined c = search undefined_tag

@@ -16,11 +16,9 @@ returns-then-granules-lt-SIZES c =
 pub overflow_add-result : goal.overflow_add-result
 overflow_add-result c =
     let a = c.args in
-    let r = c.requires.1 in
+    let r = c.requires.small in
     let one = uleb_short (size_limit * a.distance + 1) (omega arith) in
     let two = uleb_short (a.granules - 1) (omega arith) in
-    let e₁ = c.uleb_length-first.ensures in
-    let e₂ = c.uleb_length.ensures in
     omega arith
 
 pub returns : goal.returns
@@ -28,6 +26,4 @@ returns c =
     let a = c.args in
     let n = two_length a.distance a.granules (omega arith) in
     let w = uleb_low (size_limit * a.distance) 1 (omega arith) (omega arith) in
-    let e₁ = c.uleb_length-first.ensures in
-    let e₂ = c.uleb_length.ensures in
     omega arith

@@ -28,8 +28,10 @@ counted_length-total-requires c =
     let g = judged-listed l.end c.element-address.result c.element-size.result c.judge-fault.result c.judge-fault.ensures c.if-fault-ne-FAULTLESS.false in
     let some = g.filled in
     let whole = g.whole_size in
-    let low = g.low in
-    (omega arith, omega arith)
+    let low = g.low in record {
+      filled = omega arith;
+      small = omega arith;
+    }
 
 pub overflow_add-total : goal.overflow_add-total
 overflow_add-total c =

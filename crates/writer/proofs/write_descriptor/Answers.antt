@@ -11,7 +11,7 @@ use Rattle.writer.proofs.write_descriptor.Goals as goal
 pub write_uleb-requires : goal.write_uleb-requires
 write_uleb-requires c =
     let a = c.args in
-    let r = c.requires.1 in
+    let r = c.requires.fits in
     let d = descriptor_one a.distance a.granules (omega arith) in
     rw (← d) r
 
@@ -23,21 +23,21 @@ returns-then-granules-lt-SIZES c =
 pub write_uleb-next-requires : goal.write_uleb-next-requires
 write_uleb-next-requires c =
     let a = c.args in
-    let r = c.requires.1 in
+    let r = c.requires.fits in
     let n = two_length a.distance a.granules (omega arith) in
     omega arith
 
 pub write_uleb-requires-2 : goal.write_uleb-requires-2
 write_uleb-requires-2 c =
     let a = c.args in
-    let r = c.requires.1 in
+    let r = c.requires.fits in
     let n = two_length a.distance a.granules (omega arith) in
-    let m = c.write_uleb-next.ensures.0 in
+    let m = c.write_uleb-next.ensures.moved in
     let p = put-length a.buffer.now a.at (uleb (size_limit * a.distance)) in
-    rw c.write_uleb-next.ensures.1 (omega arith)
+    rw c.write_uleb-next.ensures.written (omega arith)
 
 pub returns : goal.returns
 returns c =
     let a = c.args in
-    two_written a.buffer.now a.at a.distance a.granules c.write_uleb-next.result c.write_uleb-next.new.0
-    c.write_uleb-2.result c.write_uleb-2.new.0 (omega arith) c.write_uleb-next.ensures c.write_uleb-2.ensures
+    two_written a.buffer.now a.at a.distance a.granules c.write_uleb-next.result c.write_uleb-next.new.buffer
+    c.write_uleb-2.result c.write_uleb-2.new.buffer (omega arith) c.write_uleb-next.ensures c.write_uleb-2.ensures

@@ -32,8 +32,11 @@ write_list-length-requires c =
     let a = c.args in
     let m = measured_good a.addresses.now a.sizes.now (not (ample a.addresses.now a.buffer.now)) c.in-Written.needed
     (sym c.measure-answer.ensures ∙ ap of_table c.in-Written.is) in
-    let f = measured_fits a.addresses.now a.sizes.now a.buffer.now c.in-Written.needed m.1 c.if-addresses-sizes.false m.0 (omega arith) in
-    (c.if-addresses-sizes.false, (m.0, f))
+    let f = measured_fits a.addresses.now a.sizes.now a.buffer.now c.in-Written.needed m.1 c.if-addresses-sizes.false m.0 (omega arith) in record {
+      equal = c.if-addresses-sizes.false;
+      passed = m.0;
+      fits = f;
+    }
 
 pub returns : goal.returns
 returns c =
@@ -41,5 +44,5 @@ returns c =
     let m = measured_good a.addresses.now a.sizes.now (not (ample a.addresses.now a.buffer.now)) c.in-Written.needed
     (sym c.measure-answer.ensures ∙ ap of_table c.in-Written.is) in
     let f = measured_fits a.addresses.now a.sizes.now a.buffer.now c.in-Written.needed m.1 c.if-addresses-sizes.false m.0 (omega arith) in
-    call_taken a.addresses.now a.sizes.now a.buffer.now c.if-addresses-sizes.false _ _ m.0 f (ap good c.write_list-length.ensures.0)
-    c.write_list-length.ensures.1
+    call_taken a.addresses.now a.sizes.now a.buffer.now c.if-addresses-sizes.false _ _ m.0 f (ap good c.write_list-length.ensures.counted)
+    c.write_list-length.ensures.written

@@ -9,7 +9,6 @@ use Rattle.writer.proofs.write_uleb.Goals as goal
 pub bounds-buffer-at : goal.bounds-buffer-at
 bounds-buffer-at c =
     let l = c.loop-v in
-    let r = c.requires in
     let m = length_more l.v (omega arith) l.invariant.0 in
     let e = l.invariant.1.0 in
     let s = l.invariant.1.1.0 in
@@ -26,7 +25,6 @@ loop-v-preserved c =
 pub bounds-buffer-at-2 : goal.bounds-buffer-at-2
 bounds-buffer-at-2 c =
     let l = c.loop-v in
-    let r = c.requires in
     let m = length_last l.v (omega arith) in
     let e = l.invariant.1.0 in
     let s = l.invariant.1.1.0 in
@@ -36,5 +34,7 @@ pub returns : goal.returns
 returns c =
     let l = c.loop-v in
     let m = length_last l.v (omega arith) in
-    let e = l.invariant.1.0 in
-    (omega arith, sym (put_last l.buffer l.at l.v (omega arith)) ∙ l.invariant.1.1.1)
+    let e = l.invariant.1.0 in record {
+      moved = omega arith;
+      written = sym (put_last l.buffer l.at l.v (omega arith)) ∙ l.invariant.1.1.1;
+    }
