@@ -19,7 +19,7 @@ returns-then-is_allowed c =
     let a = c.args in
     let l = c.loop-tried in
     let hit = rw l.invariant.1.0 at (suits_untagged a.excluded l.tag ∙ sym c.is_allowed.ensures ∙ c.if-is_allowed.true) in
-    l.invariant.1.0 ∙ ap (tag_up a.start) (sym (l.invariant.1.1 ∙ first-hit _ l.-tried tag_count (omega arith) hit))
+    l.invariant.1.0 ∙ ap (tag_up a.start) (sym (l.invariant.1.1 ∙ first-hit _ l._tried tag_count (omega arith) hit))
 
 pub overflow_add-tag : goal.overflow_add-tag
 overflow_add-tag c = let e = c.loop-tried.invariant.1.0 in omega arith
@@ -29,12 +29,12 @@ loop-tried-preserved c =
     let l = c.loop-tried in
     let e = l.invariant.1.0 in
     let miss = rw e at (suits_untagged c.args.excluded l.tag ∙ sym c.is_allowed.ensures ∙ c.if-is_allowed.false) in
-    (omega arith, (omega arith, l.invariant.1.1 ∙ first_step _ l.-tried tag_count (omega arith) miss))
+    (omega arith, (omega arith, l.invariant.1.1 ∙ first_step _ l._tried tag_count (omega arith) miss))
 
 pub returns : goal.returns
 unfolding pick_of
 returns c =
     let a = c.args in
     let l = c.loop-tried in
-    let n : l.-tried ≡ tag_count = omega arith in
-    l.invariant.1.0 ∙ ap (tag_up a.start) (n ∙ sym (l.invariant.1.1 ∙ first_none _ l.-tried tag_count (omega arith) (omega arith)))
+    let n : l._tried ≡ tag_count = omega arith in
+    l.invariant.1.0 ∙ ap (tag_up a.start) (n ∙ sym (l.invariant.1.1 ∙ first_none _ l._tried tag_count (omega arith) (omega arith)))

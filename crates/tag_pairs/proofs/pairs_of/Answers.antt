@@ -1,12 +1,12 @@
 -- The loop keeps that the table is filled from the last start on, where some tag is allowed.
 -- Assumes nothing.
 use mathlib.Core.Path.{refl, sym, ◌∙◌}
-use mathlib.Core.Logic.{⊎_elim}
 use native.Mathlib.Omega.{arith}
 use lib.ListN.{length-set}
 use Rattle.laws.proofs.Picks.{pick_low}
 use Rattle.tag_pairs.proofs.Laws.{filled_allowed, filled_other, filled_pairs}
 use Rattle.tag_pairs.proofs.pairs_of.Goals as goal
+use Rattle.tag_pairs.proofs.pairs_of.Goals.{then-is_allowed, else-is_allowed}
 
 pub overflow_add-tag : goal.overflow_add-tag
 overflow_add-tag c =
@@ -36,14 +36,18 @@ loop-done-preserved c =
       omega arith,
       (
         rw (length-set, length-set) n,
-        λ some. ⊎_elim
-            (λ w.
-            let f = filled_allowed x l.done l.tag l.next l.pairs n (omega arith) (l.invariant.1.1 some) (sym c.is_allowed.ensures ∙ w.0.taken) in
-            rw (c.pair.ensures, c.pair-in-loop-done.ensures, w.1, w.2) f)
-            (λ w.
-            let f = filled_other x l.done l.tag l.next l.pairs n (omega arith) (l.invariant.1.1 some) some (sym c.is_allowed.ensures ∙ w.0.left) in
-            rw (c.pair.ensures, c.pair-in-loop-done.ensures, w.1, w.2) f)
-            c.if-is_allowed.branch,
+        λ some. elim c.if-is_allowed.branch [
+          then-is_allowed w ↦
+            let f =
+                filled_allowed x l.done l.tag l.next l.pairs n (omega arith) (l.invariant.1.1 some)
+                (sym c.is_allowed.ensures ∙ w.if-is_allowed.true) in
+            rw (c.pair.ensures, c.pair-in-loop-done.ensures, w.tag-is, w.next-is) f
+        | else-is_allowed w ↦
+            let f =
+                filled_other x l.done l.tag l.next l.pairs n (omega arith) (l.invariant.1.1 some) some
+                (sym c.is_allowed.ensures ∙ w.if-is_allowed.false) in
+            rw (c.pair.ensures, c.pair-in-loop-done.ensures, w.tag-is, w.next-is) f
+        ],
       ),
     )
 

@@ -43,4 +43,5 @@ pub returns : goal.returns
 returns c =
     let a = c.args in
     let l = c.loop-i in
-    left_done a.addresses.now a.sizes.now a.buffer.now l.i l.end l.at l.buffer l.invariant (omega arith)
+    let w = left_done a.addresses.now a.sizes.now a.buffer.now l.i l.end l.at l.buffer l.invariant (omega arith) in
+    record { counted = w.0; written = w.1 }

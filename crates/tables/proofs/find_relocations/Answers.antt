@@ -1,0 +1,20 @@
+-- The table is looked up; so many entries as are allowed fit.
+-- Assumes nothing.
+use borrow.Author.Tests.{lt-leb, le-leb}
+use Rattle.rules.specs.Tables.{relocations_of}
+use Rattle.tables.proofs.find_relocations.Goals as goal
+
+pub returns-in_default : goal.returns-in_default
+unfolding relocations_of
+returns-in_default c =
+    rw (← address.value_of_lem.ensures, ← c.value_of-bytes.ensures, ← backed.table_backing_lem.ensures, c.in_default.is)
+
+pub returns-then-entries : goal.returns-then-entries
+unfolding relocations_of
+returns-then-entries c =
+    rw (← address.value_of_lem.ensures, ← c.value_of-bytes.ensures, ← backed.table_backing_lem.ensures, c.in-At.is, lt-leb _ _ c.if-entries.true)
+
+pub returns : goal.returns
+unfolding relocations_of
+returns c =
+    rw (← address.value_of_lem.ensures, ← c.value_of-bytes.ensures, ← backed.table_backing_lem.ensures, c.in-At.is, le-leb _ _ c.if-entries.false)
