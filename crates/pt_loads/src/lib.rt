@@ -2,7 +2,7 @@
 #![tactic(auto)]
 
 ghost use Rattle.std.specs.Prelude.{◌≡◌, false, cond, not, ◌&&◌, ◌+◌};
-ghost use Rattle.rules.specs.Segments.{is_load, power_below_lem, aligned, good_load, loads_check};
+ghost use Rattle.rules.specs.Segments.{is_load, power_below, aligned, good_load, loads_check};
 ghost use Rattle.rules.specs.Answers.{of_checked};
 
 use rules::{Checked, Headers, MEMORY_LIMIT, Refusal, Segment};

@@ -4,7 +4,7 @@
 ghost use Rattle.std.specs.Prelude.{◌≡◌, ◌+◌, ◌*◌, ◌≤◌, length};
 ghost use Rattle.rules.specs.Bytes.{le};
 ghost use Rattle.rules.specs.declared.Module.{Module};
-ghost use Rattle.windows.specs.Window.{in_window_lem, entry_in, Wide, Empty, Met, Walked};
+ghost use Rattle.windows.specs.Window.{in_window, entry_in, Wide, Empty, Met, Walked};
 
 use rules::Relocations;
 
