@@ -1,0 +1,45 @@
+-- The table is looked up, then its words are counted; one that is backed has at most as many bytes as a file.
+-- Assumes nothing.
+use native.Mathlib.Omega.{arith}
+use Rattle.rules.specs.Packed.{packed_of}
+use Rattle.tables.proofs.Laws.{table_size}
+use Rattle.relr.proofs.Laws.{packed_count_lem}
+use Rattle.relr.proofs.find_packed.Goals as goal
+
+pub returns-in_default : goal.returns-in_default
+unfolding packed_of
+returns-in_default c =
+    rw (← c.value_of-address.ensures, ← c.value_of-bytes.ensures, ← c.table_backing-backing.ensures, c.in_default.is)
+
+pub overflow_cast-words : goal.overflow_cast-words
+overflow_cast-words c =
+    let a = c.args in
+    let h = table_size a.f.now a.h c.value_of-address.result c.value_of-bytes.result c.in-At.at
+    (rw (← c.table_backing-backing.ensures) c.in-At.is) in
+    omega arith
+
+pub returns-in-Found : goal.returns-in-Found
+unfolding packed_of
+returns-in-Found c =
+    rw (
+      ← c.value_of-address.ensures,
+      ← c.value_of-bytes.ensures,
+      ← c.table_backing-backing.ensures,
+      c.in-At.is,
+      packed_count_lem,
+      ← c.count_places-counted.ensures,
+      c.in-Found.is,
+    )
+
+pub returns-in-Refused : goal.returns-in-Refused
+unfolding packed_of
+returns-in-Refused c =
+    rw (
+      ← c.value_of-address.ensures,
+      ← c.value_of-bytes.ensures,
+      ← c.table_backing-backing.ensures,
+      c.in-At.is,
+      packed_count_lem,
+      ← c.count_places-counted.ensures,
+      c.in-Refused.is,
+    )
