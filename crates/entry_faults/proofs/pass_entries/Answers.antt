@@ -31,7 +31,7 @@ clear-preserved c =
     let a = c.args in
     let l = c.clear in (
       seeing_clear a.f.now a.m c.requires.0 a.bias 0 a.m.relocations.entries l.t l.i l.invariant.0 c.clear-test.true
-          (c.is_clear_entry.ensures (not-false _ c.if-not-is_clear_entry.false-raw)) _ l.i _ P.entry_IsPlace.ensures
+          (c.is_clear_entry.ensures (not-false _ c.if-not-is_clear_entry.false-raw)) _ l.i _ c.entry_place.ensures
           (sym (entry_position a.f.now a.m l.i c.clear-test.true)) (c.tally_clear-t.ensures l.i),
       omega (arith, l.invariant.1),
     )

@@ -9,8 +9,8 @@ use Rattle.picker.proofs.fill_choices.Goals as goal
 pub loop-i-init : goal.loop-i-init
 loop-i-init c =
     let a = c.args in
-    picking_start a.addresses.now a.sizes.now a.random.now a.excluded c.requires.equal c.requires.drawn.0 a.choices.now c.requires.drawn.1.0
-    c.requires.drawn.1.1.0
+    picking_start a.addresses.now a.sizes.now a.random.now a.excluded c.requires.equal c.requires.drawn a.choices.now c.requires.lent
+    c.requires.passed
 
 pub bounds-choices-i : goal.bounds-choices-i
 bounds-choices-i c = let n = c.loop-i.invariant.same in omega arith
@@ -27,19 +27,19 @@ pub loop-i-preserved : goal.loop-i-preserved
 loop-i-preserved c =
     let a = c.args in
     let l = c.loop-i in
-    picking_next a.addresses.now a.sizes.now a.random.now a.excluded c.requires.equal c.requires.drawn.0 l.i l.end l.last
+    picking_next a.addresses.now a.sizes.now a.random.now a.excluded c.requires.equal c.requires.drawn l.i l.end l.last
     l.choices l.invariant (omega arith) c.element-address.result c.element.result _ c.pick-last.result c.element-address.ensures
-    c.element.ensures refl c.requires.drawn.1.1.1
+    c.element.ensures refl c.requires.enough
     (λ some. c.pick-last.ensures a.excluded (c.pairs_of-pairs.ensures (suited_alone _ _ some)) some)
 
 pub shape_of-choices : goal.shape_of-choices
 shape_of-choices c =
     let n = c.loop-i.invariant.same in
-    n ∙ c.requires.drawn.1.0
+    n ∙ c.requires.lent
 
 pub returns : goal.returns
 returns c =
     let a = c.args in
     let l = c.loop-i in
-    picking_done a.addresses.now a.sizes.now a.random.now a.excluded c.requires.equal c.requires.drawn.0 l.i l.end l.last
+    picking_done a.addresses.now a.sizes.now a.random.now a.excluded c.requires.equal c.requires.drawn l.i l.end l.last
     l.choices l.invariant (omega arith)
