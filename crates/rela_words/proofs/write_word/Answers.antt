@@ -7,8 +7,8 @@ pub returns : goal.returns
 returns c =
     let A = c.args in
     rw (
-      ← D.before.le64.ensures,
-      ← D.le642.ensures,
+      ← c.le64-place.ensures,
+      ← c.le64-addend.ensures,
       c.put64.ensures,
       c.wrapping_add_u64.ensures.value,
       put_mod,

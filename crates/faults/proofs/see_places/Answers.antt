@@ -1,0 +1,132 @@
+-- The loop keeps what is seen of the items so far, the PT_LOAD and the file part found last, and where reading packed places stands.
+-- Assumes nothing.
+use Prim.Native.Nat.{◌-◌}
+use mathlib.Core.Path.{◌≡◌, refl, sym}
+use mathlib.Core.Bool.{true}
+use mathlib.Core.Logic.{⊎_elim}
+use native.Mathlib.Omega.{arith}
+use Rattle.rules.specs.Relocations.{items}
+use Rattle.places.specs.Ahead.{Next}
+use Rattle.places.proofs.ItemLaws.{reached_start, reached_more, come_next}
+use Rattle.segments.proofs.SpanLaws.{sound_none}
+use Rattle.parts.proofs.Laws.{parted_none}
+use Rattle.tallies.proofs.Laws.{words_room}
+use Rattle.entry_faults.proofs.Laws.{seeing_start, seeing_clear, seeing_judged, seen_fault, seen_end}
+use Rattle.faults.proofs.Laws.{clear_packed, reached_on, judged_fits}
+use Rattle.faults.proofs.see_places.Goals as goal
+
+pub overflow_add-n : goal.overflow_add-n
+overflow_add-n c = omega (arith, c.requires.0.few)
+
+pub loop-i-init : goal.loop-i-init
+loop-i-init c =
+    let a = c.args in
+    let k = a.m.relocations.entries in
+    let z : k - k ≡ 0 = omega arith in (
+      seeing_start a.f.now a.m c.requires.0 a.bias k (items a.m) a.entries (omega arith) c.requires.1,
+      sound_none a.f.now a.m.headers true (record { start = 0; size = 0 }) refl,
+      parted_none a.f.now a.m.headers true,
+      rw z (reached_start a.f.now a.m),
+    )
+
+pub near_place-run-requires : goal.near_place-run-requires
+near_place-run-requires c =
+    let a = c.args in
+    let up = c.loop-i.invariant.0.above in
+    let r = c.loop-i.invariant.3 in (
+      r.standing,
+      reached_more a.f.now a.m c.loop-i.run c.loop-i.run _ r c.requires.0.counted (omega (arith, c.loop-i-test.true)),
+      c.if-run-eq1.true,
+    )
+
+pub next_place-run-requires : goal.next_place-run-requires
+next_place-run-requires c =
+    let a = c.args in
+    let up = c.loop-i.invariant.0.above in
+    let r = c.loop-i.invariant.3 in
+    (r.standing, reached_more a.f.now a.m c.loop-i.run c.loop-i.run _ r c.requires.0.counted (omega (arith, c.loop-i-test.true)))
+
+pub packed_position-position-requires : goal.packed_position-position-requires
+packed_position-position-requires c =
+    let a = c.args in
+    let up = c.loop-i.invariant.0.above in
+    let next : Next a.f.now a.m.packed c.loop-i.run c.if-run-eq1.run =
+    ⊎_elim (λ near. rw near.2 near.1.ensures) (λ far. rw far.2 far.1.ensures) c.if-run-eq1.branch in
+    ((come_next a.f.now a.m c.loop-i.run c.if-run-eq1.run c.loop-i.i up c.loop-i.invariant.3 next).here, up)
+
+pub is_clear_place-requires : goal.is_clear_place-requires
+is_clear_place-requires c =
+    (c.requires.0.loads, c.loop-i.invariant.2)
+
+pub tally_clear-t-requires : goal.tally_clear-t-requires
+tally_clear-t-requires c =
+    let a = c.args in
+    let room = words_room a.f.now a.m a.bias c.loop-i.i c.loop-i.t c.loop-i.invariant.0.tallied in
+    let few = c.requires.0.few in
+    let up = c.loop-i.invariant.0.below in
+    (omega arith, c.loop-i.invariant.0.tallied.some)
+
+pub judge_packed-e-requires : goal.judge_packed-e-requires
+judge_packed-e-requires c =
+    (c.loop-i.invariant.1, c.requires.0.loads)
+
+pub returns-then-e-ne0 : goal.returns-then-e-ne0
+returns-then-e-ne0 c =
+    let a = c.args in
+    let l = c.loop-i in
+    let up = l.invariant.0.above in
+    let next : Next a.f.now a.m.packed l.run c.if-run-eq1.run =
+    ⊎_elim (λ near. rw near.2 near.1.ensures) (λ far. rw far.2 far.1.ensures) c.if-run-eq1.branch in
+    let here = (come_next a.f.now a.m l.run c.if-run-eq1.run l.i up l.invariant.3 next).here in
+    seen_fault a.f.now a.m c.requires.0 a.bias a.m.relocations.entries (items a.m) l.t l.i l.invariant.0 c.loop-i-test.true
+    c.judge_packed-e.result (c.judge_packed-e.ensures l.i up (here.place up)) c.if-e-ne0.true c.packed_position-position.result
+    c.packed_position-position.ensures.reported
+
+pub tally_judged-t-requires : goal.tally_judged-t-requires
+tally_judged-t-requires c =
+    let a = c.args in
+    let room = words_room a.f.now a.m a.bias c.loop-i.i c.loop-i.t c.loop-i.invariant.0.tallied in
+    let few = c.requires.0.few in
+    let up = c.loop-i.invariant.0.below in
+    (omega arith, c.packed_position-position.ensures.small)
+
+pub find_part-part-requires : goal.find_part-part-requires
+find_part-part-requires c =
+    (omega arith, c.requires.0.loads)
+
+pub loop-i-preserved : goal.loop-i-preserved
+loop-i-preserved c =
+    let a = c.args in
+    let k = a.m.relocations.entries in
+    let l = c.loop-i in
+    let up = l.invariant.0.above in
+    let next : Next a.f.now a.m.packed l.run c.if-run-eq1.run =
+    ⊎_elim (λ near. rw near.2 near.1.ensures) (λ far. rw far.2 far.1.ensures) c.if-run-eq1.branch in
+    let come = come_next a.f.now a.m l.run c.if-run-eq1.run l.i up l.invariant.3 next in
+    ⊎_elim
+    (λ quick.
+    let q = clear_packed a.f.now a.m c.requires.0 l.i up a.bias _ (come.here.place up) (c.is_clear_place.ensures quick.0.taken) in (
+      rw quick.2
+          (seeing_clear a.f.now a.m c.requires.0 a.bias k (items a.m) l.t l.i l.invariant.0 c.loop-i-test.true q _
+          c.packed_position-position.result _ (sym (come.here.place up)) c.packed_position-position.ensures.reported (quick.1.ensures c.packed_position-position.result)),
+      rw quick.3 l.invariant.1,
+      rw quick.4 l.invariant.2,
+      reached_on a.f.now a.m c.requires.0 l.i up _ come q.fits,
+    ))
+    (λ slow.
+    let judged = slow.1.ensures l.i up (come.here.place up) in (
+      rw slow.7
+          (seeing_judged a.f.now a.m c.requires.0 a.bias k (items a.m) l.t l.i l.invariant.0 c.loop-i-test.true slow.1.result
+          judged slow.3.left c.packed_position-position.result _ c.packed_position-position.ensures.reported slow.4.ensures.0 slow.4.ensures.1),
+      rw slow.8 judged.sound,
+      rw slow.9 slow.6.ensures,
+      reached_on a.f.now a.m c.requires.0 l.i up _ come
+          (judged_fits a.f.now a.m c.requires.0 l.i up a.bias slow.1.result judged slow.3.left),
+    ))
+    c.if-is_clear_place.branch
+
+pub returns : goal.returns
+returns c =
+    let a = c.args in
+    seen_end a.f.now a.m c.requires.0 a.bias a.m.relocations.entries (items a.m) c.loop-i.t c.loop-i.i c.loop-i.invariant.0
+    c.loop-i-test.false
