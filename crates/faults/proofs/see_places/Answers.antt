@@ -3,7 +3,6 @@
 use Prim.Native.Nat.{◌-◌}
 use mathlib.Core.Path.{◌≡◌, refl, sym}
 use mathlib.Core.Bool.{true}
-use mathlib.Core.Logic.{⊎_elim}
 use native.Mathlib.Omega.{arith}
 use Rattle.rules.specs.Relocations.{items}
 use Rattle.places.specs.Ahead.{Next}
@@ -14,6 +13,7 @@ use Rattle.tallies.proofs.Laws.{words_room}
 use Rattle.entry_faults.proofs.Laws.{seeing_start, seeing_clear, seeing_judged, seen_fault, seen_end}
 use Rattle.faults.proofs.Laws.{clear_packed, reached_on, judged_fits}
 use Rattle.faults.proofs.see_places.Goals as goal
+use Rattle.faults.proofs.see_places.Goals.{then-run-eq1, else-run-eq1, then-is_clear_place, else-is_clear_place+else-e-ne0}
 
 pub overflow_add-n : goal.overflow_add-n
 overflow_add-n c = omega (arith, c.requires.0.few)
@@ -51,7 +51,10 @@ packed_position-position-requires c =
     let a = c.args in
     let up = c.loop-i.invariant.0.above in
     let next : Next a.f.now a.m.packed c.loop-i.run c.if-run-eq1.run =
-    ⊎_elim (λ near. rw near.2 near.1.ensures) (λ far. rw far.2 far.1.ensures) c.if-run-eq1.branch in
+        elim c.if-run-eq1.branch [
+          then-run-eq1 w ↦ rw w.run-is w.near_place-run.ensures
+        | else-run-eq1 w ↦ rw w.run-is w.next_place-run.ensures
+        ] in
     ((come_next a.f.now a.m c.loop-i.run c.if-run-eq1.run c.loop-i.i up c.loop-i.invariant.3 next).here, up)
 
 pub is_clear_place-requires : goal.is_clear_place-requires
@@ -76,7 +79,10 @@ returns-then-e-ne0 c =
     let l = c.loop-i in
     let up = l.invariant.0.above in
     let next : Next a.f.now a.m.packed l.run c.if-run-eq1.run =
-    ⊎_elim (λ near. rw near.2 near.1.ensures) (λ far. rw far.2 far.1.ensures) c.if-run-eq1.branch in
+        elim c.if-run-eq1.branch [
+          then-run-eq1 w ↦ rw w.run-is w.near_place-run.ensures
+        | else-run-eq1 w ↦ rw w.run-is w.next_place-run.ensures
+        ] in
     let here = (come_next a.f.now a.m l.run c.if-run-eq1.run l.i up l.invariant.3 next).here in
     seen_fault a.f.now a.m c.requires.0 a.bias a.m.relocations.entries (items a.m) l.t l.i l.invariant.0 c.loop-i-test.true
     c.judge_packed-e.result (c.judge_packed-e.ensures l.i up (here.place up)) c.if-e-ne0.true c.packed_position-position.result
@@ -101,29 +107,34 @@ loop-i-preserved c =
     let l = c.loop-i in
     let up = l.invariant.0.above in
     let next : Next a.f.now a.m.packed l.run c.if-run-eq1.run =
-    ⊎_elim (λ near. rw near.2 near.1.ensures) (λ far. rw far.2 far.1.ensures) c.if-run-eq1.branch in
+        elim c.if-run-eq1.branch [
+          then-run-eq1 w ↦ rw w.run-is w.near_place-run.ensures
+        | else-run-eq1 w ↦ rw w.run-is w.next_place-run.ensures
+        ] in
     let come = come_next a.f.now a.m l.run c.if-run-eq1.run l.i up l.invariant.3 next in
-    ⊎_elim
-    (λ quick.
-    let q = clear_packed a.f.now a.m c.requires.0 l.i up a.bias _ (come.here.place up) (c.is_clear_place.ensures quick.0.taken) in (
-      rw quick.2
-          (seeing_clear a.f.now a.m c.requires.0 a.bias k (items a.m) l.t l.i l.invariant.0 c.loop-i-test.true q _
-          c.packed_position-position.result _ (sym (come.here.place up)) c.packed_position-position.ensures.reported (quick.1.ensures c.packed_position-position.result)),
-      rw quick.3 l.invariant.1,
-      rw quick.4 l.invariant.2,
-      reached_on a.f.now a.m c.requires.0 l.i up _ come q.fits,
-    ))
-    (λ slow.
-    let judged = slow.1.ensures l.i up (come.here.place up) in (
-      rw slow.7
-          (seeing_judged a.f.now a.m c.requires.0 a.bias k (items a.m) l.t l.i l.invariant.0 c.loop-i-test.true slow.1.result
-          judged slow.3.left c.packed_position-position.result _ c.packed_position-position.ensures.reported slow.4.ensures.0 slow.4.ensures.1),
-      rw slow.8 judged.sound,
-      rw slow.9 slow.6.ensures,
-      reached_on a.f.now a.m c.requires.0 l.i up _ come
-          (judged_fits a.f.now a.m c.requires.0 l.i up a.bias slow.1.result judged slow.3.left),
-    ))
-    c.if-is_clear_place.branch
+    elim c.if-is_clear_place.branch [
+      then-is_clear_place w ↦
+        let q = clear_packed a.f.now a.m c.requires.0 l.i up a.bias _ (come.here.place up) (c.is_clear_place.ensures w.if-is_clear_place.true) in (
+          rw w.t-is
+              (seeing_clear a.f.now a.m c.requires.0 a.bias k (items a.m) l.t l.i l.invariant.0 c.loop-i-test.true q _
+              c.packed_position-position.result _ (sym (come.here.place up)) c.packed_position-position.ensures.reported
+              (w.tally_clear-t.ensures c.packed_position-position.result)),
+          rw w.span-is l.invariant.1,
+          rw w.part-is l.invariant.2,
+          reached_on a.f.now a.m c.requires.0 l.i up _ come q.fits,
+        )
+    | else-is_clear_place+else-e-ne0 w ↦
+        let judged = w.judge_packed-e.ensures l.i up (come.here.place up) in (
+          rw w.t-is
+              (seeing_judged a.f.now a.m c.requires.0 a.bias k (items a.m) l.t l.i l.invariant.0 c.loop-i-test.true w.judge_packed-e.result
+              judged w.if-e-ne0.false c.packed_position-position.result _ c.packed_position-position.ensures.reported
+              w.tally_judged-t.ensures.kept w.tally_judged-t.ensures.skipped),
+          rw w.span-is judged.sound,
+          rw w.part-is w.find_part-part.ensures,
+          reached_on a.f.now a.m c.requires.0 l.i up _ come
+              (judged_fits a.f.now a.m c.requires.0 l.i up a.bias w.judge_packed-e.result judged w.if-e-ne0.false),
+        )
+    ]
 
 pub returns : goal.returns
 returns c =
