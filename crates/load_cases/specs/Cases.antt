@@ -65,12 +65,14 @@ abbrev chosen : List ℕ → Outcome Facts → Case
 chosen choices says = lent sample bias 720 45 choices says
 
 -- the module with the entries of mode, heap and stack
+abbrev modes : List ℕ
+modes =
+    put sample (dynamic 7) (joined (dynamic_entry 0x70000009 1 ∷ dynamic_entry 0x7000000b 1 ∷ dynamic_entry 0x7000000c 0 ∷ []))
+
+-- with other values
 abbrev modes_with : ℕ → ℕ → ℕ → List ℕ
 modes_with one two three =
     put sample (dynamic 7) (joined (dynamic_entry 0x70000009 one ∷ dynamic_entry 0x7000000b two ∷ dynamic_entry 0x7000000c three ∷ []))
-
-abbrev modes : List ℕ
-modes = modes_with 1 1 0
 
 -- what is not asked: align 0 and 1; PT_DYNAMIC's own offset; other tags, even when repeated, and 2^32 above REL; where a table of 0 bytes is;
 -- the place of an entry that is skipped; a PT_DYNAMIC of 16 bytes, the DT_NULL alone, has no tables; and the facts of the entries for mode,
