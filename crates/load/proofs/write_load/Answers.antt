@@ -4,8 +4,8 @@ use Rattle.load.proofs.write_load.Goals as goal
 
 pub returns : goal.returns
 returns c = record {
-      placed = rw (← P.place-segments.ensures, ← T.tag-globals.ensures) c.relocate.ensures;
-      tagged = T.tag-globals.ensures;
+      placed = rw (← c.place_segments.ensures, ← c.tag_globals.ensures) c.relocate.ensures;
+      tagged = c.tag_globals.ensures;
     }
 
 pub relocate-requires : goal.relocate-requires
