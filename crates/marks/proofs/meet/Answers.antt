@@ -7,15 +7,15 @@ use Rattle.marks.proofs.meet.Goals as goal
 
 pub returns-then-is_hit : goal.returns-then-is_hit
 returns-then-is_hit c = record {
-      hits = sym c.if-is_hit.true ∙ c.is_hit.ensures;
-      marks = λ e. search never;
-    }
+  hits = sym c.if-is_hit.true ∙ c.is_hit.ensures;
+  marks = λ e. search never;
+}
 
 pub mark-requires : goal.mark-requires
 mark-requires c = (search rules, sym c.is_hit.ensures ∙ c.if-is_hit.false)
 
 pub returns : goal.returns
 returns c = record {
-      hits = sym c.if-is_hit.false ∙ c.is_hit.ensures;
-      marks = λ e. c.mark.ensures;
-    }
+  hits = sym c.if-is_hit.false ∙ c.is_hit.ensures;
+  marks = λ e. c.mark.ensures;
+}
