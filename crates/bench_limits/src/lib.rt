@@ -3,8 +3,8 @@
 
 use bench_images::LONG_FILE;
 use bench_runs::BIAS;
-use libc::STDOUT_FILENO;
 use rules::{ENTRY_LIMIT, GLOBAL_LIMIT};
+use std::io;
 
 // Bytes of an image, of its memory and of its plane.
 const FILE: usize = LONG_FILE as usize;
@@ -39,80 +39,91 @@ fn put_choices(choices: &mut [u8]) {
 }
 
 // The image of a case, over zeros; what its line begins with.
-fn put_case(f: &mut [u8], case: u32) {
+fn put_case(rt: &impl Print, f: &mut [u8], case: u32) -> io::Result<()> {
     let entries = ENTRY_LIMIT as u32;
     if case == 0 {
-        io::write_all(STDOUT_FILENO, b"65536 relocations: ");
+        print!(rt; "65536 relocations: ")?;
         bench_images::put_long(f, MEMORY as u64, entries, 0x10c0);
-        return;
+        return Ok(());
     }
     if case == 1 {
-        io::write_all(STDOUT_FILENO, b"65537 relocations: ");
+        print!(rt; "65537 relocations: ")?;
         bench_images::put_long(f, MEMORY as u64, entries + 1, 0x10c0);
-        return;
+        return Ok(());
     }
     if case == 2 {
-        io::write_all(
-            STDOUT_FILENO,
-            b"65536 relocations, the last at the first place: ",
-        );
+        print!(rt; "65536 relocations, the last at the first place: ")?;
         bench_images::put_repeated(f, MEMORY as u64, entries, 0x10c0);
-        return;
+        return Ok(());
     }
     if case == 3 {
-        io::write_all(STDOUT_FILENO, b"65536 packed places: ");
+        print!(rt; "65536 packed places: ")?;
         bench_images::put_packed_long(f, MEMORY as u64, BITMAPS, FIFTEEN_BITS);
-        return;
+        return Ok(());
     }
     if case == 4 {
-        io::write_all(STDOUT_FILENO, b"65537 packed places: ");
+        print!(rt; "65537 packed places: ")?;
         bench_images::put_packed_long(f, MEMORY as u64, BITMAPS, SIXTEEN_BITS);
-        return;
+        return Ok(());
     }
     if case == FIRST_OF_GLOBALS {
-        io::write_all(STDOUT_FILENO, b"65536 globals: ");
+        print!(rt; "65536 globals: ")?;
         bench_images::put_globals(f, MEMORY as u64, GLOBAL_LIMIT, LAST as u64, LAST_GLOBAL);
-        return;
+        return Ok(());
     }
-    io::write_all(STDOUT_FILENO, b"65537 globals: ");
+    print!(rt; "65537 globals: ")?;
     bench_images::put_globals(f, MEMORY as u64, GLOBAL_LIMIT + 1, LAST as u64, LAST_GLOBAL);
+    Ok(())
 }
 
 // Loads the image of a case; the word is that of the last place.
-fn run_lent(f: &mut [u8], case: u32, memory: &mut [u8], plane: &mut [u8], choices: &mut [u8]) {
-    put_case(f, case);
+fn run_lent(
+    rt: &impl Print,
+    f: &mut [u8],
+    case: u32,
+    memory: &mut [u8],
+    plane: &mut [u8],
+    choices: &mut [u8],
+) -> io::Result<()> {
+    put_case(rt, f, case)?;
     if case < FIRST_OF_GLOBALS {
-        bench_runs::run_load(f, BIAS, memory, plane, b"\x03\x09\x05", LAST);
-        return;
+        return bench_runs::run_load(rt, f, BIAS, memory, plane, b"\x03\x09\x05", LAST);
     }
     put_choices(choices);
-    bench_runs::run_load(f, BIAS, memory, plane, choices, LAST);
+    bench_runs::run_load(rt, f, BIAS, memory, plane, choices, LAST)
 }
 
 // Each large array is in a function by itself.
-fn lend_choices(f: &mut [u8], case: u32, memory: &mut [u8], plane: &mut [u8]) {
+fn lend_choices(
+    rt: &impl Print,
+    f: &mut [u8],
+    case: u32,
+    memory: &mut [u8],
+    plane: &mut [u8],
+) -> io::Result<()> {
     let mut choices = [0u8; CHOICES];
-    run_lent(f, case, memory, plane, &mut choices);
+    run_lent(rt, f, case, memory, plane, &mut choices)
 }
 
-fn lend_plane(f: &mut [u8], case: u32, memory: &mut [u8]) {
+fn lend_plane(rt: &impl Print, f: &mut [u8], case: u32, memory: &mut [u8]) -> io::Result<()> {
     let mut plane = [0u8; PLANE];
-    lend_choices(f, case, memory, &mut plane);
+    lend_choices(rt, f, case, memory, &mut plane)
 }
 
-fn lend_memory(f: &mut [u8], case: u32) {
+fn lend_memory(rt: &impl Print, f: &mut [u8], case: u32) -> io::Result<()> {
     let mut memory = [0u8; MEMORY];
-    lend_plane(f, case, &mut memory);
+    lend_plane(rt, f, case, &mut memory)
 }
 
-fn run_case(case: u32) {
+fn run_case(rt: &impl Print, case: u32) -> io::Result<()> {
     let mut f = [0u8; FILE];
-    lend_memory(&mut f, case);
+    lend_memory(rt, &mut f, case)
 }
 
 // All cases, by one call in a loop: their arrays are on the stack once.
-pub fn run_limits() {
+pub fn run_limits(rt: &impl Print) -> io::Result<()> {
     for case in 0..7 {
-        run_case(case);
+        run_case(rt, case)?;
     }
+    Ok(())
 }

@@ -4,10 +4,14 @@
 // (8 bytes each).
 #![tactic(auto)]
 
-ghost use Rattle.std.specs.Prelude.{◌+◌, ◌≤◌, ◌<◌, length};
+ghost use Rattle.std.specs.Prelude.{◌+◌, ◌≤◌, ◌<◌, length, IfOk};
 
-use libc::{STDIN_FILENO, STDOUT_FILENO};
 use rules::{Cursor, Step};
+use std::io;
+use std::io::Read;
+
+// Bytes of input that are read.
+const CASES: usize = 65536;
 
 // Bytes of a case before its table and after it.
 const BEFORE: usize = 4;
@@ -38,46 +42,43 @@ fn le64(s: &[u8], at: usize) -> u64
     le32(s, at) as u64 + 4294967296 * (le32(s, at + 4) as u64)
 }
 
-fn print_after_space(n: u64) {
-    io::write_all(STDOUT_FILENO, b" ");
-    io::print_decimal(STDOUT_FILENO, n);
+fn print_after_space(rt: &impl Print, n: u64) -> io::Result<()> {
+    print!(rt; " {n}")
 }
 
-fn print_step(answer: Step) {
+fn print_step(rt: &impl Print, answer: Step) -> io::Result<()> {
     match answer {
-        Step::Finished => {
-            io::write_all(STDOUT_FILENO, b"finished\n");
-        }
+        Step::Finished => println!(rt; "finished"),
         Step::Global(g, c) => {
-            io::write_all(STDOUT_FILENO, b"global");
-            print_after_space(g.start);
-            print_after_space(g.granules);
-            print_after_space(c.position);
-            print_after_space(c.end);
-            io::write_all(STDOUT_FILENO, b"\n");
+            print!(rt; "global")?;
+            print_after_space(rt, g.start)?;
+            print_after_space(rt, g.granules)?;
+            print_after_space(rt, c.position)?;
+            print_after_space(rt, c.end)?;
+            println!(rt)
         }
         Step::Refused(r) => {
-            io::write_all(STDOUT_FILENO, b"refused");
-            print_after_space(r.number as u64);
-            print_after_space(r.position);
-            io::write_all(STDOUT_FILENO, b"\n");
+            print!(rt; "refused")?;
+            print_after_space(rt, r.number as u64)?;
+            print_after_space(rt, r.position)?;
+            println!(rt)
         }
     }
 }
 
 // Answers the case at the start of the bytes, and says how many bytes it has; all of them where it is cut short.
-fn answer_case(s: &[u8]) -> usize
+fn answer_case(rt: &impl Print, s: &[u8]) -> io::Result<usize>
     requires { 0 < length s.now }
-    ensures upper_bound { result ≤ length s.now }
-    ensures result_nonzero { 0 < result }
+    ensures upper_bound { IfOk result (λ n. n ≤ length s.now) }
+    ensures result_nonzero { IfOk result (λ n. 0 < n) }
 {
     if s.len() < BEFORE {
-        return s.len();
+        return Ok(s.len());
     }
     let bytes = le32(s, 0) as usize;
     let after = BEFORE + bytes;
     if s.len() < after + AFTER {
-        return s.len();
+        return Ok(s.len());
     }
     let table = &s[BEFORE..after];
     let c = Cursor {
@@ -85,19 +86,35 @@ fn answer_case(s: &[u8]) -> usize
         end: le64(s, after + 8),
     };
     let answer = c.step(table, le64(s, after + 16));
-    print_step(answer);
-    after + AFTER
+    print_step(rt, answer)?;
+    Ok(after + AFTER)
 }
 
-fn answer_all(s: &[u8]) {
+fn answer_all(rt: &impl Print, s: &[u8]) -> io::Result<()> {
     let mut at = 0;
     while at < s.len() {
-        at += answer_case(&s[at..]);
+        at += answer_case(rt, &s[at..])?;
     }
+    Ok(())
 }
 
-fn main() {
-    let mut cases = io::large_buffer();
-    let n = io::read_full(STDIN_FILENO, &mut cases);
-    answer_all(&cases[..n]);
+// Reads until the bytes are full or the input ends, and says how many were read.
+fn read_full(input: &mut impl Read, bytes: &mut [u8]) -> io::Result<usize>
+    ensures { IfOk result (λ n. n ≤ length bytes.new) }
+{
+    let mut done = 0;
+    while done < bytes.len() {
+        let n = input.read(&mut bytes[done..])?;
+        if n == 0 {
+            break;
+        }
+        done += n;
+    }
+    Ok(done)
+}
+
+fn main(rt: HostRuntime) -> io::Result<()> {
+    let mut cases = [0u8; CASES];
+    let n = read_full(&mut rt.stdin(), &mut cases)?;
+    answer_all(&rt, &cases[..n])
 }

@@ -1,33 +1,30 @@
 // Writes the globals of a file to standard output.
 #![tactic(auto)]
 
-ghost use Rattle.std.specs.Prelude.{◌≡◌, length};
+ghost use Rattle.std.specs.Prelude.{◌≡◌, length, IfOk};
 ghost use Rattle.rules.specs.Outcome.{good};
 ghost use Rattle.rules.specs.Reader.{module_of};
 ghost use Rattle.rules.specs.Choices.{globals_in, global_at};
 
-use libc::STDOUT_FILENO;
 use rules::{Cursor, Global, Module, ModuleAnswer, Step};
+use std::io;
 
 // Two numbers on a line.
-pub fn print_pair(a: u64, b: u64) {
-    io::print_decimal(STDOUT_FILENO, a);
-    io::write_all(STDOUT_FILENO, b" ");
-    io::print_decimal(STDOUT_FILENO, b);
-    io::write_all(STDOUT_FILENO, b"\n");
+pub fn print_pair(rt: &impl Print, a: u64, b: u64) -> io::Result<()> {
+    println!(rt; "{a} {b}")
 }
 
 // Written is the global of the index i.
-fn print_global(f: &[u8], m: Module, i: u32, g: Global)
+fn print_global(rt: &impl Print, f: &[u8], m: Module, i: u32, g: Global) -> io::Result<()>
     requires { g ≡ global_at (globals_in f.now m) i }
 {
-    print_pair(g.start, g.granules);
+    print_pair(rt, g.start, g.granules)
 }
 
 // A line for each global that the table lists; says how many lines.
-fn print_globals(f: &[u8], m: Module) -> u32
+fn print_globals(rt: &impl Print, f: &[u8], m: Module) -> io::Result<u32>
     requires { module_of f.now ≡ good m }
-    ensures { result ≡ length (globals_in f.now m) }
+    ensures { IfOk result (λ n. n ≡ length (globals_in f.now m)) }
 {
     let t = m.descriptors;
     let globals = m.globals;
@@ -39,22 +36,22 @@ fn print_globals(f: &[u8], m: Module) -> u32
     for i in 0..globals {
         let step = cursor.step(table, i as u64);
         let Step::Global(g, next) = step else {
-            return i;
+            return Ok(i);
         };
-        print_global(f, m, i, g);
+        print_global(rt, f, m, i, g)?;
         cursor = next;
     }
-    globals
+    Ok(globals)
 }
 
 // The number of globals, and each of them; nothing for a file that the reader refuses.
-pub fn print_module(f: &[u8]) {
+pub fn print_module(rt: &impl Print, f: &[u8]) -> io::Result<()> {
     let read = elf::read_module(f);
     let ModuleAnswer::Found(m) = read else {
-        return;
+        return Ok(());
     };
-    io::write_all(STDOUT_FILENO, b"globals ");
-    io::print_decimal(STDOUT_FILENO, m.globals as u64);
-    io::write_all(STDOUT_FILENO, b"\n");
-    print_globals(f, m);
+    let globals = m.globals;
+    println!(rt; "globals {globals}")?;
+    print_globals(rt, f, m)?;
+    Ok(())
 }
