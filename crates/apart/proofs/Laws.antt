@@ -20,7 +20,7 @@ use Rattle.marks.specs.Map.{shares}
 use Rattle.marks.proofs.Laws.{near_shares}
 use Rattle.bits.specs.Bits.{has, with_word}
 use Rattle.bits.proofs.Laws.{has_same, has_kept}
-use Rattle.apart.specs.Apart.{unsure, Met, Apart, Spread, Tells, Within}
+use Rattle.apart.specs.Apart.{unsure, Met, Spread, Tells, Within}
 use Rattle.apart.specs.declared.Told.{Told}
 
 -- ---- one place

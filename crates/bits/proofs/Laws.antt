@@ -9,7 +9,7 @@ use native.Mathlib.Omega.{arith}
 use native.Mathlib.Nat.{one-mul, add-div_right, add-mul-div_left, div-lt_iff_lt-mul, pow-suc, eq-or-lt_of_le}
 use native.Mathlib.Numerals.{one-add}
 use lib.Dec.{eqb, lit<}
-use lib.ListN.{length, get_or, set}
+use lib.ListN.{length, get_or}
 use lib.Seq.{get_or-set_same, get_or-set_other}
 use lib.Pow.{pow_pos, pow-add, shr_lt, shr-shr, shl_exact}
 use borrow.Author.Tests.{eq-eqb, eqb-true, eqb-false}

@@ -13,7 +13,6 @@ use Rattle.rules.specs.Outcome.{Outcome, good, bad, refusal, found, passed, requ
 use Rattle.rules.specs.Checks.{Check, All, First}
 use Rattle.rules.specs.Limits.{entry_limit, global_limit, header_limit, dynamic_limit}
 use Rattle.rules.specs.Bytes.{le}
-use Rattle.rules.specs.First.{first}
 use Rattle.rules.specs.Headers.{wrong_byte, good_header, header_check, the_headers}
 use Rattle.rules.specs.Segments.{bad_load}
 use Rattle.rules.specs.Dynamic.{null_entry, good_size, dynamic_at, first_dynamic, second_dynamic, dynamic_of}

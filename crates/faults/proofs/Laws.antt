@@ -8,7 +8,7 @@ use mathlib.Core.Logic.{⊎_elim}
 use native.Mathlib.Omega.{arith}
 use native.Mathlib.Nat.{sub-zero, eq-or-lt_of_le}
 use Rattle.rules.specs.First.{first}
-use Rattle.rules.specs.Relocations.{place_at, live, place_fits}
+use Rattle.rules.specs.Relocations.{place_at, place_fits}
 use Rattle.rules.specs.Addresses.{bad_address}
 use Rattle.rules.specs.Image.{loaded_at}
 use Rattle.rules.specs.declared.Module.{Module}

@@ -1,6 +1,6 @@
 -- The loops of the picker: globals that abut, tags that are needed, and the choices that are left to pick.
 -- Assumes nothing.
-use Prim.Native.Nat.{ℕ, zero, suc, ◌+◌, ◌-◌, ◌≤◌, ◌<◌}
+use Prim.Native.Nat.{ℕ, zero, suc, ◌+◌, ◌≤◌, ◌<◌}
 use mathlib.Core.Path.{◌≡◌, refl, sym, ap, ◌∙◌}
 use mathlib.Core.Bool.{Bool, true, false, cond, not, ◌&&◌}
 use mathlib.Core.List.{List, ◌∷◌, append-nil}
@@ -15,7 +15,7 @@ use Rattle.rules.specs.First.{some_below}
 use Rattle.rules.specs.Limits.{address_limit}
 use Rattle.rules.specs.Memory.{put}
 use Rattle.rules.specs.Writer.{list_check}
-use Rattle.rules.specs.Picker.{barred_at, suits, pick_of, picks_from, picks_of, abuts_at, tags_needed, tags_allowed}
+use Rattle.rules.specs.Picker.{barred_at, pick_of, picks_from, picks_of, abuts_at, tags_needed, tags_allowed}
 use Rattle.rules.proofs.MemoryLaws.{put-nil, put-cons, put_front}
 use Rattle.laws.proofs.Picks.{end_at, tag_at, needed_one, needed_most}
 use Rattle.laws.proofs.Picks.{barred_why, enough_suits, picks_at, picks_end, picks_length}

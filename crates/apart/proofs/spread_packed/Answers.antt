@@ -30,10 +30,10 @@ overflow_sub-run c =
     let a = c.args in
     let l = c.loop-i in
     let next : Next a.f.now a.m.packed l.run c.if-run-eq1.run =
-        elim c.if-run-eq1.branch [
-          then-run-eq1 w ↦ rw w.run-is w.near_place-run.ensures
-        | else-run-eq1 w ↦ rw w.run-is w.next_place-run.ensures
-        ] in
+    elim c.if-run-eq1.branch [
+      | then-run-eq1 w ↦ rw w.run-is w.near_place-run.ensures
+      | else-run-eq1 w ↦ rw w.run-is w.next_place-run.ensures
+    ] in
     let within = rw (← l.invariant.0) at c.requires.1 in
     (packing_within a.f.now a.m a.lo a.n c.requires.0 l.map l.run l.i l.invariant.1 (omega arith) within c.if-run-eq1.run next).0
 
@@ -42,10 +42,10 @@ meet_place-requires c =
     let a = c.args in
     let l = c.loop-i in
     let next : Next a.f.now a.m.packed l.run c.if-run-eq1.run =
-        elim c.if-run-eq1.branch [
-          then-run-eq1 w ↦ rw w.run-is w.near_place-run.ensures
-        | else-run-eq1 w ↦ rw w.run-is w.next_place-run.ensures
-        ] in
+    elim c.if-run-eq1.branch [
+      | then-run-eq1 w ↦ rw w.run-is w.near_place-run.ensures
+      | else-run-eq1 w ↦ rw w.run-is w.next_place-run.ensures
+    ] in
     let within = rw (← l.invariant.0) at c.requires.1 in
     (packing_within a.f.now a.m a.lo a.n c.requires.0 l.map l.run l.i l.invariant.1 (omega arith) within c.if-run-eq1.run next).1
 
@@ -60,10 +60,10 @@ loop-i-preserved c =
     let a = c.args in
     let l = c.loop-i in
     let next : Next a.f.now a.m.packed l.run c.if-run-eq1.run =
-        elim c.if-run-eq1.branch [
-          then-run-eq1 w ↦ rw w.run-is w.near_place-run.ensures
-        | else-run-eq1 w ↦ rw w.run-is w.next_place-run.ensures
-        ] in
+    elim c.if-run-eq1.branch [
+      | then-run-eq1 w ↦ rw w.run-is w.near_place-run.ensures
+      | else-run-eq1 w ↦ rw w.run-is w.next_place-run.ensures
+    ] in
     let within = rw (← l.invariant.0) at c.requires.1 in (
       c.meet_place.auto.map ∙ l.invariant.0,
       packing_next a.f.now a.m a.lo a.n c.requires.0 l.map l.run l.i l.invariant.1 (omega arith) within

@@ -12,9 +12,9 @@ use Rattle.bits.proofs.meet_word.Goals as goal
 pub returns-then-has_bit : goal.returns-then-has_bit
 unfolding has
 returns-then-has_bit c = record {
-      had = sym c.if-has_bit.true ∙ c.has_bit.ensures;
-      put = λ e. search never;
-    }
+  had = sym c.if-has_bit.true ∙ c.has_bit.ensures;
+  put = λ e. search never;
+}
 
 pub with_bit-requires : goal.with_bit-requires
 with_bit-requires c =
@@ -26,6 +26,6 @@ with_bit-requires c =
 pub returns : goal.returns
 unfolding has with_word
 returns c = record {
-      had = sym c.if-has_bit.false ∙ c.has_bit.ensures;
-      put = λ e. rw c.with_bit.ensures;
-    }
+  had = sym c.if-has_bit.false ∙ c.has_bit.ensures;
+  put = λ e. rw c.with_bit.ensures;
+}

@@ -38,18 +38,18 @@ clear-preserved c =
 
 pub returns-then-bias-ge-FAR : goal.returns-then-bias-ge-FAR
 returns-then-bias-ge-FAR c = record {
-      onward = omega arith;
-      seen = c.requires.3;
-    }
+  onward = omega arith;
+  seen = c.requires.3;
+}
 
 pub returns-after-clear : goal.returns-after-clear
 returns-after-clear c = let l = c.clear in record {
-      onward = l.invariant.1;
-      seen = l.invariant.0;
-    }
+  onward = l.invariant.1;
+  seen = l.invariant.0;
+}
 
 pub returns-then-not-is_clear_entry : goal.returns-then-not-is_clear_entry
 returns-then-not-is_clear_entry c = let l = c.clear in record {
-      onward = l.invariant.1;
-      seen = l.invariant.0;
-    }
+  onward = l.invariant.1;
+  seen = l.invariant.0;
+}

@@ -9,6 +9,6 @@ overflow_sub-result c = c.requires.0.read c.requires.1
 
 pub returns : goal.returns
 returns c = record {
-      reported = sym (c.requires.0.position c.requires.1);
-      small = omega arith;
-    }
+  reported = sym (c.requires.0.position c.requires.1);
+  small = omega arith;
+}

@@ -51,10 +51,10 @@ packed_position-position-requires c =
     let a = c.args in
     let up = c.loop-i.invariant.0.above in
     let next : Next a.f.now a.m.packed c.loop-i.run c.if-run-eq1.run =
-        elim c.if-run-eq1.branch [
-          then-run-eq1 w ↦ rw w.run-is w.near_place-run.ensures
-        | else-run-eq1 w ↦ rw w.run-is w.next_place-run.ensures
-        ] in
+    elim c.if-run-eq1.branch [
+      | then-run-eq1 w ↦ rw w.run-is w.near_place-run.ensures
+      | else-run-eq1 w ↦ rw w.run-is w.next_place-run.ensures
+    ] in
     ((come_next a.f.now a.m c.loop-i.run c.if-run-eq1.run c.loop-i.i up c.loop-i.invariant.3 next).here, up)
 
 pub is_clear_place-requires : goal.is_clear_place-requires
@@ -79,10 +79,10 @@ returns-then-e-ne0 c =
     let l = c.loop-i in
     let up = l.invariant.0.above in
     let next : Next a.f.now a.m.packed l.run c.if-run-eq1.run =
-        elim c.if-run-eq1.branch [
-          then-run-eq1 w ↦ rw w.run-is w.near_place-run.ensures
-        | else-run-eq1 w ↦ rw w.run-is w.next_place-run.ensures
-        ] in
+    elim c.if-run-eq1.branch [
+      | then-run-eq1 w ↦ rw w.run-is w.near_place-run.ensures
+      | else-run-eq1 w ↦ rw w.run-is w.next_place-run.ensures
+    ] in
     let here = (come_next a.f.now a.m l.run c.if-run-eq1.run l.i up l.invariant.3 next).here in
     seen_fault a.f.now a.m c.requires.0 a.bias a.m.relocations.entries (items a.m) l.t l.i l.invariant.0 c.loop-i-test.true
     c.judge_packed-e.result (c.judge_packed-e.ensures l.i up (here.place up)) c.if-e-ne0.true c.packed_position-position.result
@@ -107,33 +107,33 @@ loop-i-preserved c =
     let l = c.loop-i in
     let up = l.invariant.0.above in
     let next : Next a.f.now a.m.packed l.run c.if-run-eq1.run =
-        elim c.if-run-eq1.branch [
-          then-run-eq1 w ↦ rw w.run-is w.near_place-run.ensures
-        | else-run-eq1 w ↦ rw w.run-is w.next_place-run.ensures
-        ] in
+    elim c.if-run-eq1.branch [
+      | then-run-eq1 w ↦ rw w.run-is w.near_place-run.ensures
+      | else-run-eq1 w ↦ rw w.run-is w.next_place-run.ensures
+    ] in
     let come = come_next a.f.now a.m l.run c.if-run-eq1.run l.i up l.invariant.3 next in
     elim c.if-is_clear_place.branch [
-      then-is_clear_place w ↦
-        let q = clear_packed a.f.now a.m c.requires.0 l.i up a.bias _ (come.here.place up) (c.is_clear_place.ensures w.if-is_clear_place.true) in (
-          rw w.t-is
-              (seeing_clear a.f.now a.m c.requires.0 a.bias k (items a.m) l.t l.i l.invariant.0 c.loop-i-test.true q _
-              c.packed_position-position.result _ (sym (come.here.place up)) c.packed_position-position.ensures.reported
-              (w.tally_clear-t.ensures c.packed_position-position.result)),
-          rw w.span-is l.invariant.1,
-          rw w.part-is l.invariant.2,
-          reached_on a.f.now a.m c.requires.0 l.i up _ come q.fits,
-        )
-    | else-is_clear_place+else-e-ne0 w ↦
-        let judged = w.judge_packed-e.ensures l.i up (come.here.place up) in (
-          rw w.t-is
-              (seeing_judged a.f.now a.m c.requires.0 a.bias k (items a.m) l.t l.i l.invariant.0 c.loop-i-test.true w.judge_packed-e.result
-              judged w.if-e-ne0.false c.packed_position-position.result _ c.packed_position-position.ensures.reported
-              w.tally_judged-t.ensures.kept w.tally_judged-t.ensures.skipped),
-          rw w.span-is judged.sound,
-          rw w.part-is w.find_part-part.ensures,
-          reached_on a.f.now a.m c.requires.0 l.i up _ come
-              (judged_fits a.f.now a.m c.requires.0 l.i up a.bias w.judge_packed-e.result judged w.if-e-ne0.false),
-        )
+      | then-is_clear_place w ↦
+          let q = clear_packed a.f.now a.m c.requires.0 l.i up a.bias _ (come.here.place up) (c.is_clear_place.ensures w.if-is_clear_place.true) in (
+            rw w.t-is
+                (seeing_clear a.f.now a.m c.requires.0 a.bias k (items a.m) l.t l.i l.invariant.0 c.loop-i-test.true q _
+                c.packed_position-position.result _ (sym (come.here.place up)) c.packed_position-position.ensures.reported
+                (w.tally_clear-t.ensures c.packed_position-position.result)),
+            rw w.span-is l.invariant.1,
+            rw w.part-is l.invariant.2,
+            reached_on a.f.now a.m c.requires.0 l.i up _ come q.fits,
+          )
+      | else-is_clear_place+else-e-ne0 w ↦
+          let judged = w.judge_packed-e.ensures l.i up (come.here.place up) in (
+            rw w.t-is
+                (seeing_judged a.f.now a.m c.requires.0 a.bias k (items a.m) l.t l.i l.invariant.0 c.loop-i-test.true w.judge_packed-e.result
+                judged w.if-e-ne0.false c.packed_position-position.result _ c.packed_position-position.ensures.reported
+                w.tally_judged-t.ensures.kept w.tally_judged-t.ensures.skipped),
+            rw w.span-is judged.sound,
+            rw w.part-is w.find_part-part.ensures,
+            reached_on a.f.now a.m c.requires.0 l.i up _ come
+                (judged_fits a.f.now a.m c.requires.0 l.i up a.bias w.judge_packed-e.result judged w.if-e-ne0.false),
+          )
     ]
 
 pub returns : goal.returns

@@ -4,9 +4,9 @@ use Rattle.load.proofs.write_load.Goals as goal
 
 pub returns : goal.returns
 returns c = record {
-      placed = rw (← c.place_segments.ensures, ← c.tag_globals.ensures) c.relocate.ensures;
-      tagged = c.tag_globals.ensures;
-    }
+  placed = rw (← c.place_segments.ensures, ← c.tag_globals.ensures) c.relocate.ensures;
+  tagged = c.tag_globals.ensures;
+}
 
 pub relocate-requires : goal.relocate-requires
 relocate-requires c =

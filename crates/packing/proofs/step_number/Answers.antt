@@ -10,9 +10,9 @@ use Rattle.packing.proofs.step_number.Goals as goal
 
 pub returns-in-Finished : goal.returns-in-Finished
 returns-in-Finished c = record {
-      answered = rw (← c.step-step.ensures, c.in-Finished.is);
-      written = rw (← c.step-step.ensures, c.in-Finished.is);
-    }
+  answered = rw (← c.step-step.ensures, c.in-Finished.is);
+  written = rw (← c.step-step.ensures, c.in-Finished.is);
+}
 
 -- a step is one of the three
 one_of : (s : Step) → (s ≡ step.Finished → ⊥) → ((g : Global) (next : Cursor) → s ≡ step.Global g next → ⊥) → ((r : Refusal) → s ≡ step.Refused r → ⊥) → ⊥
@@ -26,12 +26,12 @@ returns-in_default-step-2 c =
 
 pub returns-in_default-step : goal.returns-in_default-step
 returns-in_default-step c = record {
-      answered = rw (← c.step-step.ensures, c.in-Refused.is);
-      written = rw (← c.step-step.ensures, c.in-Refused.is) c.put64.ensures;
-    }
+  answered = rw (← c.step-step.ensures, c.in-Refused.is);
+  written = rw (← c.step-step.ensures, c.in-Refused.is) c.put64.ensures;
+}
 
 pub returns : goal.returns
 returns c = record {
-      answered = rw (← c.step-step.ensures, c.in-Global.is);
-      written = rw (← c.step-step.ensures, c.in-Global.is) c.write_global.ensures;
-    }
+  answered = rw (← c.step-step.ensures, c.in-Global.is);
+  written = rw (← c.step-step.ensures, c.in-Global.is) c.write_global.ensures;
+}

@@ -29,9 +29,9 @@ returns-in_default c =
 
 pub are_few-requires : goal.are_few-requires
 are_few-requires c = record {
-      equal = sym c.if-sizes-globals.false;
-      passed = sym c.check_globals-checked.ensures ∙ ap of_checked c.in-Passed.is;
-    }
+  equal = sym c.if-sizes-globals.false;
+  passed = sym c.check_globals-checked.ensures ∙ ap of_checked c.in-Passed.is;
+}
 
 pub returns-then-are_few : goal.returns-then-are_few
 returns-then-are_few c =

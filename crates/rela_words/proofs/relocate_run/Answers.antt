@@ -65,9 +65,9 @@ shape_of-mem-after-near c =
 
 pub returns-after-near : goal.returns-after-near
 returns-after-near c = let l = c.near in record {
-      onward = (l.invariant.0, l.invariant.1);
-      written = l.invariant.2;
-    }
+  onward = (l.invariant.0, l.invariant.1);
+  written = l.invariant.2;
+}
 
 pub shape_of-mem-then-is_barred : goal.shape_of-mem-then-is_barred
 shape_of-mem-then-is_barred c =

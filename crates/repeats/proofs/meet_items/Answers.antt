@@ -17,8 +17,7 @@ returns-then-i-n c =
 
 pub meet_packed-requires : goal.meet_packed-requires
 meet_packed-requires c =
-    let a = c.args in
-    (
+    let a = c.args in (
       omega (arith, c.meet_entries-i.auto.map, c.requires.0),
       c.requires.2,
       entries_passed a.f.now a.m a.lo a.size a.found c.least-n.result c.least-n.ensures.0 c.least-n.ensures.1 _ _ (c.meet_entries-i.ensures a.m refl)

@@ -28,8 +28,8 @@ next_place-run-requires c =
 pub overflow_sub-result : goal.overflow_sub-result
 overflow_sub-result c =
     elim c.if-run-eq1.branch [
-      then-run-eq1 w ↦ rw w.run-is w.near_place-run.ensures.read
-    | else-run-eq1 w ↦ rw w.run-is w.next_place-run.ensures.read
+      | then-run-eq1 w ↦ rw w.run-is w.near_place-run.ensures.read
+      | else-run-eq1 w ↦ rw w.run-is w.next_place-run.ensures.read
     ]
 
 pub shape_of-map-then-meet_in : goal.shape_of-map-then-meet_in
@@ -41,10 +41,10 @@ returns-then-meet_in c =
     let a = c.args in
     let l = c.loop-i in
     let next : Next a.f.now a.m.packed l.run c.if-run-eq1.run =
-        elim c.if-run-eq1.branch [
-          then-run-eq1 w ↦ rw w.run-is w.near_place-run.ensures
-        | else-run-eq1 w ↦ rw w.run-is w.next_place-run.ensures
-        ] in
+    elim c.if-run-eq1.branch [
+      | then-run-eq1 w ↦ rw w.run-is w.near_place-run.ensures
+      | else-run-eq1 w ↦ rw w.run-is w.next_place-run.ensures
+    ] in
     packing_hit a.f.now a.m a.lo a.size a.found c.requires.1 l.map l.run l.i l.invariant.1 c.loop-i-test.true
     c.if-run-eq1.run next _ _ c.meet_in.ensures c.if-meet_in.true
 
@@ -53,10 +53,10 @@ loop-i-preserved c =
     let a = c.args in
     let l = c.loop-i in
     let next : Next a.f.now a.m.packed l.run c.if-run-eq1.run =
-        elim c.if-run-eq1.branch [
-          then-run-eq1 w ↦ rw w.run-is w.near_place-run.ensures
-        | else-run-eq1 w ↦ rw w.run-is w.next_place-run.ensures
-        ] in (
+    elim c.if-run-eq1.branch [
+      | then-run-eq1 w ↦ rw w.run-is w.near_place-run.ensures
+      | else-run-eq1 w ↦ rw w.run-is w.next_place-run.ensures
+    ] in (
       c.meet_in.auto.map ∙ l.invariant.0,
       packing_next a.f.now a.m a.lo a.size a.found c.requires.1 l.map l.run l.i l.invariant.1 c.loop-i-test.true
           c.if-run-eq1.run next _ _ c.meet_in.ensures (omega arith) c.if-meet_in.false,

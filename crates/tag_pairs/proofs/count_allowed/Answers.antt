@@ -23,12 +23,11 @@ overflow_add-count c =
 pub loop-tag-preserved : goal.loop-tag-preserved
 loop-tag-preserved c =
     let n = count_next (allowed c.args.excluded) c.loop-tag.tag in
-    let b = c.loop-tag.invariant.1 in
-    (
+    let b = c.loop-tag.invariant.1 in (
       omega arith,
       elim c.if-is_allowed.branch [
-        then-is_allowed w ↦ let m = rw (sym c.is_allowed.ensures ∙ w.if-is_allowed.true) at n in omega (arith, w.count-is)
-      | else-is_allowed w ↦ let m = rw (sym c.is_allowed.ensures ∙ w.if-is_allowed.false) at n in omega (arith, w.count-is)
+        | then-is_allowed w ↦ let m = rw (sym c.is_allowed.ensures ∙ w.if-is_allowed.true) at n in omega (arith, w.count-is)
+        | else-is_allowed w ↦ let m = rw (sym c.is_allowed.ensures ∙ w.if-is_allowed.false) at n in omega (arith, w.count-is)
       ],
     )
 

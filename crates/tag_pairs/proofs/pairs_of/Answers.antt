@@ -31,22 +31,21 @@ pub loop-done-preserved : goal.loop-done-preserved
 loop-done-preserved c =
     let l = c.loop-done in
     let n = l.invariant.1.0 in
-    let x = c.args.excluded in
-    (
+    let x = c.args.excluded in (
       omega arith,
       (
         rw (length-set, length-set) n,
         λ some. elim c.if-is_allowed.branch [
-          then-is_allowed w ↦
-            let f =
-                filled_allowed x l.done l.tag l.next l.pairs n (omega arith) (l.invariant.1.1 some)
-                (sym c.is_allowed.ensures ∙ w.if-is_allowed.true) in
-            rw (c.pair.ensures, c.pair-in-loop-done.ensures, w.tag-is, w.next-is) f
-        | else-is_allowed w ↦
-            let f =
-                filled_other x l.done l.tag l.next l.pairs n (omega arith) (l.invariant.1.1 some) some
-                (sym c.is_allowed.ensures ∙ w.if-is_allowed.false) in
-            rw (c.pair.ensures, c.pair-in-loop-done.ensures, w.tag-is, w.next-is) f
+          | then-is_allowed w ↦
+              let f =
+              filled_allowed x l.done l.tag l.next l.pairs n (omega arith) (l.invariant.1.1 some)
+              (sym c.is_allowed.ensures ∙ w.if-is_allowed.true) in
+              rw (c.pair.ensures, c.pair-in-loop-done.ensures, w.tag-is, w.next-is) f
+          | else-is_allowed w ↦
+              let f =
+              filled_other x l.done l.tag l.next l.pairs n (omega arith) (l.invariant.1.1 some) some
+              (sym c.is_allowed.ensures ∙ w.if-is_allowed.false) in
+              rw (c.pair.ensures, c.pair-in-loop-done.ensures, w.tag-is, w.next-is) f
         ],
       ),
     )

@@ -7,15 +7,15 @@ use Rattle.tallies.proofs.tally_judged.Goals as goal
 
 pub returns-then-e : goal.returns-then-e
 returns-then-e c = record {
-      kept = λ _. c.tally_place.ensures;
-      skipped = λ e. true_false (sym c.if-e.true ∙ e);
-    }
+  kept = λ _. c.tally_place.ensures;
+  skipped = λ e. true_false (sym c.if-e.true ∙ e);
+}
 
 pub returns : goal.returns
 returns c = record {
-      kept = λ e. false_true (sym c.if-e.false ∙ e);
-      skipped = λ _. refl;
-    }
+  kept = λ e. false_true (sym c.if-e.false ∙ e);
+  skipped = λ _. refl;
+}
 
 pub tally_place-requires : goal.tally_place-requires
 tally_place-requires c = search rules

@@ -40,8 +40,8 @@ pub returns : goal.returns
 returns c =
     let a = c.args in
     let w =
-        two_written a.buffer.now a.at a.distance a.granules c.write_uleb-next.result c.write_uleb-next.new.buffer
-        c.write_uleb-2.result c.write_uleb-2.new.buffer (omega arith)
-        (c.write_uleb-next.ensures.moved, c.write_uleb-next.ensures.written)
-        (c.write_uleb-2.ensures.moved, c.write_uleb-2.ensures.written) in
+    two_written a.buffer.now a.at a.distance a.granules c.write_uleb-next.result c.write_uleb-next.new.buffer
+    c.write_uleb-2.result c.write_uleb-2.new.buffer (omega arith)
+    (c.write_uleb-next.ensures.moved, c.write_uleb-next.ensures.written)
+    (c.write_uleb-2.ensures.moved, c.write_uleb-2.ensures.written) in
     record { moved = w.0; written = w.1 }
