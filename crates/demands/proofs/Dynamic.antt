@@ -14,7 +14,8 @@ use Rattle.rules.specs.Limits.{dynamic_limit}
 use Rattle.rules.specs.First.{first}
 use Rattle.rules.specs.Headers.{the_headers, headers_of}
 use Rattle.rules.specs.Segments.{header_at, loads_check, backing_of}
-use Rattle.rules.specs.Dynamic.{is_dynamic_at, dynamic_from, first_dynamic, second_dynamic, is_null_at, null_entry, good_size, dynamic_at, dynamic_in, dynamic_of}
+use Rattle.rules.specs.Dynamic.{is_dynamic_at, dynamic_from, first_dynamic, second_dynamic, is_null_at, null_entry, good_size, dynamic_at, dynamic_in}
+use Rattle.rules.specs.Dynamic.{dynamic_of}
 use Rattle.rules.specs.declared.Headers.{Headers}
 use Rattle.rules.specs.declared.Dynamic.{Dynamic}
 use Rattle.rules.specs.declared.Backing.{Backing}

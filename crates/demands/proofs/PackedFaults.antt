@@ -27,7 +27,7 @@ use Rattle.laws.proofs.Checks.{and_then_bad}
 use Rattle.laws.proofs.Packed.{before_none, before_grows}
 use Rattle.laws.proofs.PackedTable.{backed_bad, backed_good, bad_many, bad_bitmap}
 use Rattle.demands.proofs.Lowest.{not_both, faultless_lowest, lowest_faultless}
-use Rattle.demands.specs.Table.{Lowest, PackedFault, not_backed, bitmap_first_holds, too_many}
+use Rattle.demands.specs.Table.{Lowest, PackedFault, not_backed, bitmap_first, too_many}
 
 -- the first word stands where the table does
 first_word : (f : List ℕ) (at : ℕ) → packed_word f at 0 ≡ le 8 f at
@@ -88,7 +88,7 @@ module _ (f : List ℕ) (h : Headers) (d : Dynamic) (r : Relocations) (few : r.e
           let e = eqb-false _ _ q in
           let z = bitmap_zero f at r.entries count few i e l in
           let u = l.below in
-          bitmap_first_holds at b (omega arith) (let w = first_word f at in omega arith) z
+          bitmap_first at b (omega arith) (let w = first_word f at in omega arith) z
 
   pub packed_says : (q : Refusal) → packed_of f h d r ≡ bad q → (i : ℕ) × ((q ≡ refusal 15 i) × PackedFault f h d r.entries i)
   unfolding packed_of
@@ -109,7 +109,7 @@ module _ (f : List ℕ) (h : Headers) (d : Dynamic) (r : Relocations) (few : r.e
   pub packed_when : (i : ℕ) → PackedFault f h d r.entries i → packed_of f h d r ≡ bad (refusal 15 i)
   unfolding packed_of
   packed_when i (not_backed b z) = rw (b, z)
-  packed_when i (bitmap_first_holds at b l e z) =
+  packed_when i (bitmap_first at b l e z) =
       rw z (at_lowest at 0 b (bitmap_lowest f at r.entries count few l (λ q. let w = first_word f at in omega arith)))
   packed_when i (too_many at b l e u v) =
       at_lowest at i b (many_lowest f at r.entries count few i l (rw (first_word f at) e) u v)

@@ -166,6 +166,9 @@ module _ (f : List ℕ) (m : Module) (headed : headers_of f ≡ good m.headers) 
         go k l false q = rw (unskipped k, q)
         go k l true q = rw (unskipped k, q, range_same (bare_address f m bias image k), ← address_same k l q)
 
+    pub bare_checked : addresses_check f m bias ≡ good tt → faults_at 13 (position_at f m) (bad_bare f m bias image) (items m) ≡ good tt
+    bare_checked e = bare_faults ∙ e
+
     -- the words
     module _ (in_range_lem : addresses_check f m bias ≡ good tt) (apart : Apart (live f m) (place_at f m) (length image) 0 (items m)) where
       -- the bare word of an item

@@ -49,7 +49,7 @@ use Rattle.demands.proofs.Exactly.{exactly_read, exactly_examined, exactly_loade
 use Rattle.demands.proofs.Table.{table}
 use Rattle.demands.specs.Table.{reader_numbers, examine_numbers, load_numbers, listed, position_limit, Lowest, Unread, FirstAt, ItemAt, Row}
 use Rattle.demands.specs.Table.{DynamicFault, no_dynamic, second-dynamic, bad_dynamic, EntryFault, bad_entry_holds, no_partner}
-use Rattle.demands.specs.Table.{PackedFault, not_backed, bitmap_first_holds, too_many}
+use Rattle.demands.specs.Table.{PackedFault, not_backed, bitmap_first, too_many}
 use Rattle.demands.specs.Table.{GlobalFault, ends_high, outside_loads, left_over, ChoiceFault, wrong_number, bad_choice_holds}
 use Rattle.demands.specs.Facts.{Flags, Counts}
 use Rattle.demands.specs.Demands.{Numbered, Counted, Examines}
@@ -226,7 +226,7 @@ item_position f m kind l i w = first_position f m (bad_relocation f m) l i w.at
 
 packed_fault : (f : List ℕ) (h : Headers) (d : Dynamic) (r : Relocations) → Bounded (PackedFault f h d r.entries)
 packed_fault f h d r i (not_backed b z) = omega arith
-packed_fault f h d r i (bitmap_first_holds at b l e z) = omega arith
+packed_fault f h d r i (bitmap_first at b l e z) = omega arith
 packed_fault f h d r i (too_many at b l e u v) =
     let s = table_short f h (packed_address f d) (packed_bytes f d) at b in omega arith
 
@@ -374,11 +374,14 @@ counts : (f : List ℕ) (m : Module) → module_of f ≡ good m → Counts f m (
 unfolding facts_of
 counts f m e = record { globals_listed_holds = (module_reads f m e).count; words_relocated = (module_packs f m e).counted }
 
+pub examined_facts : (f : List ℕ) (a : Facts) → examined_of f ≡ good a → Counted a
+examined_facts f = of_examined f Counted (facts_counted f (the_module f))
+
 pub examines : (f : List ℕ) → Examines f
 examines f = record {
   module_refusal = module_refusal f;
   examined_refusal = examined_refusal f;
-  examined_facts = of_examined f Counted (facts_counted f (the_module f));
+  examined_facts = examined_facts f;
   examined_flags = of_examined f (Flags f (the_dynamic f)) (λ e.
       flags f (the_dynamic f) (module_reads f (the_module f) e).entries (the_module f) refl);
   examined_counts = of_examined f (Counts f (the_module f)) (λ e. counts f (the_module f) e);

@@ -43,7 +43,8 @@ use Rattle.demands.proofs.Steps.{step_numbers}
 use Rattle.demands.proofs.PackedFaults.{packed_says, packed_when}
 use Rattle.demands.proofs.Lowest.{cond_bad, lowest_first, first_lowest, clear_first, first_clear, faultless_lowest, lowest_faultless}
 use Rattle.demands.specs.Table.{listed, Lowest, Reaches, Row, Table}
-use Rattle.demands.specs.Table.{DynamicFault, no_dynamic, second-dynamic, bad_dynamic, EntryFault, bad_entry_holds, no_partner, EntryFaultBy, bad_entry-by, no_partner_by, Unread}
+use Rattle.demands.specs.Table.{DynamicFault, no_dynamic, second-dynamic, bad_dynamic, EntryFault, bad_entry_holds, no_partner, EntryFaultBy}
+use Rattle.demands.specs.Table.{bad_entry_by, no_partner_by, Unread}
 use Rattle.demands.specs.Table.{GlobalFault, ends_high, outside_loads, left_over, FirstAt, ItemAt, ChoiceFault, wrong_number, bad_choice_holds}
 
 -- a refusal with a number, at a position
@@ -200,7 +201,7 @@ module _ (f : List ℕ) where
     unfolding entries_check
     entries_says r e =
         and_then_bad (faultless 6 (bad_entry known f d) d.entries) _ e
-        (λ q. let l = faultless_lowest (bad_entry known f d) 6 d.entries q in (l.0, (l.1.1, bad_entry-by l.1.0)))
+        (λ q. let l = faultless_lowest (bad_entry known f d) 6 d.entries q in (l.0, (l.1.1, bad_entry_by l.1.0)))
         (λ _ a q.
         let s = require_stopped (not (some_below (partnerless known f d) (length known))) 6 d.entries q in
         let k = some_at (partnerless known f d) (length known) (not-false _ s.0) in
@@ -208,7 +209,7 @@ module _ (f : List ℕ) where
 
     pub entries_when : (i : ℕ) → EntryFaultBy known f d i → entries_check known f d ≡ bad (refusal 6 i)
     unfolding entries_check
-    entries_when i (bad_entry-by l) = let s = lowest_faultless (bad_entry known f d) 6 d.entries i l in rw s
+    entries_when i (bad_entry_by l) = let s = lowest_faultless (bad_entry known f d) 6 d.entries i l in rw s
     entries_when i (no_partner_by k c l e q) =
         let a = all_faultless (bad_entry known f d) 6 d.entries (λ i u. c i (omega arith) u) in
         let b = at_some (partnerless known f d) (length known) k l e in
@@ -216,11 +217,11 @@ module _ (f : List ℕ) where
 
   -- of the tags of all the checks
   fault_of : (d : Dynamic) (i : ℕ) → EntryFaultBy known_tags f d i → EntryFault f d i
-  fault_of d i (bad_entry-by l) = bad_entry_holds l
+  fault_of d i (bad_entry_by l) = bad_entry_holds l
   fault_of d i (no_partner_by k c l e q) = no_partner k c l e q
 
   of_fault : (d : Dynamic) (i : ℕ) → EntryFault f d i → EntryFaultBy known_tags f d i
-  of_fault d i (bad_entry_holds l) = bad_entry-by l
+  of_fault d i (bad_entry_holds l) = bad_entry_by l
   of_fault d i (no_partner k c l e q) = no_partner_by k c l e q
 
   module _ (h : Headers) (t : Descriptors) where

@@ -91,7 +91,7 @@ pub data EntryFault (f : List ℕ) (d : Dynamic) (i : ℕ) : Type 0 where
 
 -- the same by a table of known tags
 pub data EntryFaultBy (known : List Known) (f : List ℕ) (d : Dynamic) (i : ℕ) : Type 0 where
-  bad_entry-by : Lowest (bad_entry known f d) 0 d.entries i → EntryFaultBy known f d i
+  bad_entry_by : Lowest (bad_entry known f d) 0 d.entries i → EntryFaultBy known f d i
   no_partner_by : (k : ℕ) → Clear (bad_entry known f d) 0 d.entries → k < length known → partnerless known f d k ≡ true
       → i ≡ d.entries → EntryFaultBy known f d i
 
@@ -99,7 +99,7 @@ pub data EntryFaultBy (known : List Known) (f : List ℕ) (d : Dynamic) (i : ℕ
 -- word, and were not before it
 pub data PackedFault (f : List ℕ) (h : Headers) (d : Dynamic) (entries i : ℕ) : Type 0 where
   not_backed : table_backing f h (packed_address f d) (packed_bytes f d) ≡ Nowhere → i ≡ 0 → PackedFault f h d entries i
-  bitmap_first_holds : (at : ℕ) → table_backing f h (packed_address f d) (packed_bytes f d) ≡ At at → 0 < packed_bytes f d / 8
+  bitmap_first : (at : ℕ) → table_backing f h (packed_address f d) (packed_bytes f d) ≡ At at → 0 < packed_bytes f d / 8
       → le 8 f at % 2 ≡ 1 → i ≡ 0 → PackedFault f h d entries i
   too_many : (at : ℕ) → table_backing f h (packed_address f d) (packed_bytes f d) ≡ At at → i < packed_bytes f d / 8
       → le 8 f at % 2 ≡ 0 → entries + length (packed_before f at i) ≤ entry_limit

@@ -26,7 +26,8 @@ unfolding le first count_below over put size_check wrong_byte identification_che
     is_dynamic_at dynamic_from is_null_at null_entry good_size dynamic_at dynamic_of is_row row_of has_tag_at tag_before bad_entry has_tag partnerless
     entries_check entry_of table_backing relocations_of descriptors_of places_in places_of run_after packed_from is_place_at
     bad_word packed_of uleb_in short_second short_first second descriptor global_after read_at step_at globals_from globals_of module_of
-    place_at addend_at live position_at target_at symbol_backing symbol_of target_of named_target target has_place taken place_fits good_place bad_relocation first_bad
+    place_at addend_at live position_at target_at symbol_backing symbol_of target_of named_target target has_place taken
+    place_fits good_place bad_relocation first_bad
     relocations_check words_of facts_of examined_of
 file_cases_hold = record {
   read = refl;

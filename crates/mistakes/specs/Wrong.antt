@@ -8,7 +8,8 @@ use Rattle.rules.specs.First.{some_below, faults_at}
 use Rattle.rules.specs.Memory.{signed}
 use Rattle.rules.specs.Headers.{good_header, header_checks}
 use Rattle.rules.specs.Segments.{header_at, is_load, loads_check, covers}
-use Rattle.rules.specs.Dynamic.{known_tags, base_tags, row_at, row_of, allows, tag_at, value_at, first_dynamic, dynamic_of, entries_check, memtag_mode, entry_of}
+use Rattle.rules.specs.Dynamic.{known_tags, base_tags, row_at, row_of, allows, tag_at, value_at, first_dynamic, dynamic_of, entries_check}
+use Rattle.rules.specs.Dynamic.{memtag_mode, entry_of}
 use Rattle.rules.specs.Tables.{relocations_of, descriptors_of}
 use Rattle.rules.specs.Packed.{packed_of}
 use Rattle.rules.specs.Relocations.{relative, abs64, glob_dat, kind_at, symbol_at, place_at, addend_at, items, position_at, symbol_backing, symbol_of}

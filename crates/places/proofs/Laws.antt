@@ -1,6 +1,7 @@
 -- Reading packed places, a word and a bit at a time.
 -- Assumes nothing.
-use Rattle.std.proofs.Common.{◌≡◌, ℕ, zero, suc, ◌+◌, ◌-◌, ◌*◌, ◌/◌, ◌%◌, ◌^◌, ◌<◌, ◌≤◌, Bool, true, false, ltb, List, [], ◌∷◌, ◌++◌, map, length, sym, refl, ◌∙◌, pow-suc, arith, ltb-false, ltb-true, eq-eqb, ne_eqb}
+use Rattle.std.proofs.Common.{◌≡◌, ℕ, zero, suc, ◌+◌, ◌-◌, ◌*◌, ◌/◌, ◌%◌, ◌^◌, ◌<◌, ◌≤◌, Bool, true, false, ltb, List, [], ◌∷◌, ◌++◌, map, length}
+use Rattle.std.proofs.Common.{sym, refl, ◌∙◌, pow-suc, arith, ltb-false, ltb-true, eq-eqb, ne_eqb}
 use Rattle.rules.specs.Packed.{Named, named, packed_word, bitmap_bits, bitmap_bytes, places_in, places_of, run_after, packed_from, packed_before}
 use Rattle.rules.specs.declared.Packed.{Packed}
 use Rattle.places.specs.Ahead.{ahead, place_limit, Standing, Next}

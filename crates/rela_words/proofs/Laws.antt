@@ -1,6 +1,7 @@
 -- A word's low 64 bits are all that is written; and the write pass, item by item.
 -- Assumes nothing.
-use Rattle.std.proofs.Common.{◌≡◌, ℕ, zero, suc, ◌+◌, ◌-◌, ◌*◌, ◌/◌, ◌%◌, ◌^◌, ◌≤◌, List, [], ◌∷◌, ◌++◌, length, sym, refl, ap, ◌∙◌, add-zero, add-suc, zero-add, arith, eq-eqb, ne_eqb}
+use Rattle.std.proofs.Common.{◌≡◌, ℕ, zero, suc, ◌+◌, ◌-◌, ◌*◌, ◌/◌, ◌%◌, ◌^◌, ◌≤◌, List, [], ◌∷◌, ◌++◌, length, sym, refl, ap, ◌∙◌, add-zero}
+use Rattle.std.proofs.Common.{add-suc, zero-add, arith, eq-eqb, ne_eqb}
 use borrow.Author.Tests.{lt-leb}
 use Rattle.rules.specs.Bytes.{le}
 use Rattle.rules.specs.Memory.{bytes_of, put, put_word}

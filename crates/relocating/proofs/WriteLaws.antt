@@ -1,6 +1,7 @@
 -- What a place holds before its own write is what was loaded, so the write pass is the rules' run of writes.
 -- Assumes nothing.
-use Rattle.std.proofs.Common.{◌≡◌, ℕ, zero, suc, ◌+◌, ◌<◌, ◌≤◌, Bool, true, false, List, length, get_or, ℤ, pos, negsuc, refl, inl, inr, ⊎_elim, arith, le-leb, leb-false}
+use Rattle.std.proofs.Common.{◌≡◌, ℕ, zero, suc, ◌+◌, ◌<◌, ◌≤◌, Bool, true, false, List, length, get_or, ℤ, pos, negsuc, refl, inl, inr, ⊎_elim}
+use Rattle.std.proofs.Common.{arith, le-leb, leb-false}
 use Rattle.rules.specs.Limits.{address_limit}
 use Rattle.rules.specs.Bytes.{le}
 use Rattle.rules.specs.Memory.{put_word, mod64}

@@ -10,6 +10,7 @@ use Rattle.rules.specs.Picker.{allowed, pick_of, picks_from, abuts_at, tags_need
 use Rattle.rules.specs.Bench.{BenchHolds}
 
 pub bench : BenchHolds
-unfolding uleb_in short_second short_first second descriptor global_after read_at step_at tagged put over uleb_bytes table_from list_check written_of first count_below
+unfolding uleb_in short_second short_first second descriptor global_after read_at step_at tagged put over uleb_bytes table_from
+    list_check written_of first count_below
     allowed pick_of picks_from abuts_at tags_needed tags_allowed picked_of
 bench = refl

@@ -8,7 +8,10 @@ use Rattle.rules.specs.Memory.{put}
 use Rattle.placing.proofs.place_segments.Given as goal
 
 abbrev pub invariant-loop-i : goal.invariant-loop-i
-invariant-loop-i l = (l.i ≤ l.count) × (put l.mem l.end (replicate (length l.initial.mem) 0) ≡ loads_over l.f l.h (replicate (length l.initial.mem) 0) l.i) × (length l.mem ≡ length l.initial.mem)
+invariant-loop-i l =
+    (l.i ≤ l.count)
+    × (put l.mem l.end (replicate (length l.initial.mem) 0) ≡ loads_over l.f l.h (replicate (length l.initial.mem) 0) l.i)
+    × (length l.mem ≡ length l.initial.mem)
 
 abbrev pub decreases-loop-i : goal.decreases-loop-i
 decreases-loop-i l = l.count - l.i

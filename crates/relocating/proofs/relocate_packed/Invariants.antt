@@ -6,7 +6,9 @@ use Rattle.rela_words.specs.Words.{relocated_from}
 use Rattle.relocating.proofs.relocate_packed.Given as goal
 
 abbrev pub invariant-loop : goal.invariant-loop
-invariant-loop l = (l.counter ≤ l.n) × Reached l.f l.m l.run l.counter × (l.mem ≡ relocated_from l.f l.m l.bias l.plane l.initial.mem l.m.relocations.entries l.counter)
+invariant-loop l =
+    (l.counter ≤ l.n) × Reached l.f l.m l.run l.counter
+    × (l.mem ≡ relocated_from l.f l.m l.bias l.plane l.initial.mem l.m.relocations.entries l.counter)
 
 abbrev pub decreases-loop : goal.decreases-loop
 decreases-loop l = l.n - l.counter

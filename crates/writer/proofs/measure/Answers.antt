@@ -55,7 +55,8 @@ loop-i-preserved c =
     let a = c.args in
     let l = c.loop-i in
     measuring_next a.addresses.now a.sizes.now a.counted l.i l.end l.total c.element-address.result c.element-size.result
-    c.judge-fault.result c.counted_length-total.result l.invariant c.element-address.ensures c.element-size.ensures (omega arith) c.requires c.judge-fault.ensures
+    c.judge-fault.result c.counted_length-total.result l.invariant c.element-address.ensures c.element-size.ensures
+    (omega arith) c.requires c.judge-fault.ensures
     c.if-fault-ne-FAULTLESS.false c.counted_length-total.ensures
 
 pub returns : goal.returns

@@ -25,7 +25,8 @@ returns-then-buffer-needed c =
     let m = measured_good a.addresses.now a.sizes.now (not (ample a.addresses.now a.buffer.now)) c.in-Written.needed
     (sym c.measure-answer.ensures ∙ ap of_table c.in-Written.is) in
     let s = measured_much a.addresses.now a.sizes.now a.buffer.now c.in-Written.needed m.1 (omega arith) in
-    call_small a.addresses.now a.sizes.now a.buffer.now c.if-addresses-sizes.false (of_table c.refused-then-buffer-needed.result) m.0 s c.refused-then-buffer-needed.ensures
+    call_small a.addresses.now a.sizes.now a.buffer.now c.if-addresses-sizes.false (of_table c.refused-then-buffer-needed.result)
+    m.0 s c.refused-then-buffer-needed.ensures
 
 pub write_list-length-requires : goal.write_list-length-requires
 write_list-length-requires c =
