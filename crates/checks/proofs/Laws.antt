@@ -7,7 +7,7 @@ use mathlib.Core.List.{List}
 use native.Mathlib.Omega.{arith}
 use lib.Dec.{eqb}
 use borrow.Author.Tests.{ne_eqb}
-use Rattle.rules.specs.Outcome.{good, bad, refuse, and_then}
+use Rattle.rules.specs.Outcome.{good, bad, refuse, and_then, Refusal}
 use Rattle.rules.specs.Checks.{Check, runs, checked}
 use Rattle.rules.specs.First.{first, faults_at}
 use Rattle.rules.specs.Descriptors.{globals_of}
@@ -19,7 +19,6 @@ use Rattle.rules.specs.Addresses.{bad_address, addresses_check}
 use Rattle.rules.specs.Choices.{choices_check}
 use Rattle.rules.specs.Load.{call_checks}
 use Rattle.rules.specs.Answers.{count_of}
-use Rattle.rules.specs.declared.Refusal.{Refusal}
 use Rattle.rules.specs.declared.Module.{Module}
 use Rattle.rules.specs.declared.Walked.{Walked}
 use Rattle.rules.specs.declared.Checked.TheVariants as answer

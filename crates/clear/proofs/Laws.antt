@@ -1,5 +1,6 @@
 -- Items in which nothing is wrong: what the few tests tell.
 -- Assumes nothing.
+use Rattle.std.specs.Prelude.{Some}
 use Rattle.std.proofs.Common.{◌≡◌, ℕ, suc, ◌+◌, ◌-◌, ◌*◌, ◌/◌, ◌%◌, ◌^◌, ◌<◌, ◌≤◌, true, false, ◌&&◌, ◌||◌, eqb, List, length, get_or, pos, ◌+ℤ◌, sym}
 use Rattle.std.proofs.Common.{◌∙◌, ⊎_elim, arith, le-ltb, lt-ltb, eq-eqb, ne_eqb, le-leb}
 use borrow.Author.Tests.{lt-leb}
@@ -11,8 +12,6 @@ use Rattle.rules.specs.Segments.{loads_check, covers}
 use Rattle.rules.specs.Relocations.{abs64, glob_dat, relative, entry_at, kind_at, symbol_at, live, place_fits}
 use Rattle.rules.specs.Relocations.{symbol_backing, symbol_of, target_of, named_target, target, target_at, barred}
 use Rattle.rules.specs.Addresses.{address_of, out_of_range, bad_address}
-use Rattle.rules.specs.declared.Entry.TheVariants.{Value}
-use Rattle.rules.specs.declared.Backing.TheVariants.{At}
 use Rattle.rules.specs.declared.Headers.{Headers}
 use Rattle.rules.specs.declared.Module.{Module}
 use Rattle.rules.specs.declared.Target.{Target}
@@ -50,7 +49,7 @@ module _ (f : List ℕ) (m : Module) where
   -- those of the file part that has the first one
   module _ (table : ℕ) (s : Part) (p : Parted f m.headers false s) (c : covers s.start s.size table 24 ≡ true) where
     part-backed : (n : ℕ) → n < (s.size - (table - s.start)) / 24
-        → symbol_backing f m.headers n (Value table) ≡ At (s.at + (table - s.start) + 24 * n)
+        → symbol_backing f m.headers n (Some table) ≡ Some (s.at + (table - s.start) + 24 * n)
     unfolding symbol_backing
     part-backed n l =
         let w = covers_within s.start s.size table 24 c in
@@ -59,7 +58,7 @@ module _ (f : List ℕ) (m : Module) where
         let q : s.at + (table + 24 * n - s.start) ≡ s.at + (table - s.start) + 24 * n = omega arith in
         rw (le-leb (table + 24 * n) memory_limit (omega arith), p.backed (table + 24 * n) 24 (omega arith) here, q)
 
-    pub nears_part : m.symbols ≡ Value table
+    pub nears_part : m.symbols ≡ Some table
         → Nears f m (record { at = s.at + (table - s.start); count = (s.size - (table - s.start)) / 24 })
     nears_part e =
         let w = covers_within s.start s.size table 24 c in
@@ -81,7 +80,7 @@ module _ (f : List ℕ) (m : Module) (kind symbol : ℕ) where
   relative-target e z = rw (eq-eqb kind relative e, eq-eqb symbol 0 z)
 
   pub symbolic_target : (at : ℕ) → (kind ≡ relative → ⊥) → (eqb kind abs64 || eqb kind glob_dat) ≡ true → (symbol ≡ 0 → ⊥)
-      → symbol_backing f m.headers symbol m.symbols ≡ At at → target f m.headers m.symbols kind symbol ≡ target_of (symbol_of f at)
+      → symbol_backing f m.headers symbol m.symbols ≡ Some at → target f m.headers m.symbols kind symbol ≡ target_of (symbol_of f at)
   unfolding target named_target
   symbolic_target at r e z b = rw (ne_eqb kind relative r, e, ne_eqb symbol 0 z, b)
 

@@ -1,12 +1,11 @@
 -- Items in which nothing is wrong, as few tests tell it.
 -- Assumes nothing.
-use Rattle.std.specs.Prelude.{◌≡◌, ℕ, ◌+◌, ◌*◌, ◌<◌, ◌≤◌, true, false, List, length}
+use Rattle.std.specs.Prelude.{◌≡◌, ℕ, ◌+◌, ◌*◌, ◌<◌, ◌≤◌, true, false, List, length, Some}
 use Rattle.rules.specs.Relocations.{place_at, live, target_at, barred, place_fits, symbol_backing}
 use Rattle.rules.specs.Addresses.{address_of, out_of_range, bad_address}
 use Rattle.rules.specs.Image.{loaded_at}
 use Rattle.rules.specs.declared.Headers.{Headers}
 use Rattle.rules.specs.declared.Module.{Module}
-use Rattle.rules.specs.declared.Backing.TheVariants.{At}
 use Rattle.rules.specs.declared.Target.{Target}
 use Rattle.rules.specs.declared.Target.TheVariants.{Defined}
 use Rattle.clear.specs.declared.Near.{Near}
@@ -14,7 +13,7 @@ use Rattle.clear.specs.declared.Near.{Near}
 -- the entries of the symbols below count stand one after the other in the file
 pub record Nears (f : List ℕ) (m : Module) (w : Near) : Type 0 where
   pub inside : w.at + 24 * w.count ≤ length f
-  pub backed : (n : ℕ) → n < w.count → symbol_backing f m.headers n m.symbols ≡ At (w.at + 24 * n)
+  pub backed : (n : ℕ) → n < w.count → symbol_backing f m.headers n m.symbols ≡ Some (w.at + 24 * n)
 
 -- a target that check 10 lets through, with its address in range
 pub record Aims (bias : ℕ) (t : Target) (addend : ℕ) : Type 0 where

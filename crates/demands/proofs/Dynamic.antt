@@ -1,5 +1,6 @@
 -- PT_DYNAMIC: there is one, and it is good, exactly when the rules find its table.
 -- Assumes nothing.
+use Rattle.std.specs.Prelude.{Option, Some, None}
 use Prim.Native.Nat.{ℕ, ◌+◌, ◌-◌, ◌/◌, ◌%◌, ◌≤◌, ◌<◌, ◌∣◌}
 use mathlib.Core.Path.{◌≡◌, refl, sym, ◌∙◌, subst}
 use mathlib.Core.Bool.{true, false, not, ◌&&◌}
@@ -18,8 +19,6 @@ use Rattle.rules.specs.Dynamic.{is_dynamic_at, dynamic_from, first_dynamic, seco
 use Rattle.rules.specs.Dynamic.{dynamic_of}
 use Rattle.rules.specs.declared.Headers.{Headers}
 use Rattle.rules.specs.declared.Dynamic.{Dynamic}
-use Rattle.rules.specs.declared.Backing.{Backing}
-use Rattle.rules.specs.declared.Backing.TheVariants.{At, Nowhere}
 use Rattle.rules.proofs.FirstLaws.{first_true, first_below, first_is}
 use Rattle.rules.proofs.OutcomeLaws.{true_false, bad_good, and_left, and_right, and_then_good, require_held, cond_held}
 use Rattle.laws.proofs.Checks.{le_or_lt}
@@ -63,11 +62,11 @@ module _ (f : List ℕ) where
 
   module _ (headed : headers_of f ≡ good H) (loaded : loads_check f H ≡ good tt) where
     -- a table that is found at a position
-    module _ (i at : ℕ) (p : backing_of f H (vaddr_at f i) (filesz_at f i) ≡ At at) where
+    module _ (i at : ℕ) (p : backing_of f H (vaddr_at f i) (filesz_at f i) ≡ Some at) where
       abbrev null : ℕ
       null = null_entry f at (filesz_at f i / 16)
 
-      at_good : (d : Dynamic) → dynamic_at f i (filesz_at f i) (At at) ≡ good d → GoodDynamic f i d
+      at_good : (d : Dynamic) → dynamic_at f i (filesz_at f i) (Some at) ≡ good d → GoodDynamic f i d
       unfolding dynamic_at null_entry is_null_at
       at_good d e =
           let c = cond_held (refusal 5 i) (good_size (filesz_at f i) && ltb null (filesz_at f i / 16)) (good (record { at = at; entries = null })) e in
@@ -90,9 +89,9 @@ module _ (f : List ℕ) where
     unfolding header_at dynamic_at
     in_good i d e = go (backing_of f H (vaddr_at f i) (filesz_at f i)) refl e
       where
-        go : (p : Backing) → backing_of f H (vaddr_at f i) (filesz_at f i) ≡ p → dynamic_at f i (filesz_at f i) p ≡ good d → GoodDynamic f i d
-        go Nowhere q x = bad_good x
-        go (At at) q x = at_good i at q d x
+        go : (p : Option ℕ) → backing_of f H (vaddr_at f i) (filesz_at f i) ≡ p → dynamic_at f i (filesz_at f i) p ≡ good d → GoodDynamic f i d
+        go None q x = bad_good x
+        go (Some at) q x = at_good i at q d x
 
     good_in : (i : ℕ) (d : Dynamic) → GoodDynamic f i d → dynamic_in f H i (header_at f H i) ≡ good d
     unfolding header_at dynamic_at null_entry is_null_at

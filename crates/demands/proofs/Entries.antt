@@ -1,5 +1,6 @@
 -- PT_DYNAMIC and the dynamic entries: each test of the rules is document 01's sentence.
 -- Assumes nothing.
+use Rattle.std.specs.Prelude.{Option, Some, None}
 use Prim.Native.Nat.{ℕ, zero, suc, ◌%◌, ◌<◌}
 use mathlib.Core.Path.{◌≡◌, refl, sym, ◌∙◌, subst}
 use mathlib.Core.Bool.{Bool, true, false, cond, not, ◌&&◌, ◌||◌}
@@ -15,8 +16,6 @@ use Rattle.rules.specs.First.{first, faultless}
 use Rattle.rules.specs.Dynamic.{row, base_tags, known_tags, row_at, allows, is_row, row_of, tag_at, value_at, has_tag_at, tag_before, bad_entry}
 use Rattle.rules.specs.Dynamic.{has_tag, differ, partnerless, entries_check, entry_of}
 use Rattle.rules.specs.declared.Dynamic.{Dynamic}
-use Rattle.rules.specs.declared.Entry.{Entry}
-use Rattle.rules.specs.declared.Entry.TheVariants as entry
 use Rattle.rules.specs.declared.Known.{Known}
 use Rattle.rules.specs.declared.Allowed.{Allowed}
 use Rattle.rules.specs.declared.Allowed.TheVariants.{Exactly24, Multiple24, Exactly8, Multiple8, Flag, Never}
@@ -311,15 +310,15 @@ module _ (f : List ℕ) (d : Dynamic) where
       at_some (has_tag_at f d tag) d.entries h.entry h.before_null (eq-eqb (tag_at f d h.entry) tag h.tagged)
 
   -- the entry of a tag, by cases
-  pub entry_case : (tag : ℕ) (P : Entry → Type 0) → (Lacks f d tag → P entry.Absent)
-      → ((v : ℕ) → Has f d tag v → P (entry.Value v)) → P (entry_of f d tag)
+  pub entry_case : (tag : ℕ) (P : Option ℕ → Type 0) → (Lacks f d tag → P None)
+      → ((v : ℕ) → Has f d tag v → P (Some v)) → P (entry_of f d tag)
   unfolding entry_of has_tag tag_before has_tag_at
   entry_case tag P none some = go (ltb i d.entries) refl
     where
       i : ℕ
       i = first (has_tag_at f d tag) 0 d.entries
 
-      go : (b : Bool) → ltb i d.entries ≡ b → P (cond b (entry.Value (value_at f d i)) entry.Absent)
+      go : (b : Bool) → ltb i d.entries ≡ b → P (cond b (Some (value_at f d i)) None)
       go false e = none (λ j l q. true_false (sym (eq-eqb (tag_at f d j) tag q) ∙ some_all (has_tag_at f d tag) d.entries e j l))
       go true e =
           let l : i < d.entries = ltb-true i d.entries e in

@@ -3,7 +3,7 @@
 use Prim.Native.Nat.{ℕ}
 use mathlib.Core.Path.{◌≡◌, sym, ap, ◌∙◌}
 use mathlib.Core.List.{List}
-use Rattle.rules.specs.Outcome.{good, bad}
+use Rattle.rules.specs.Outcome.{good, bad, Refusal}
 use Rattle.rules.specs.Checks.{Check, runs, checked}
 use Rattle.rules.specs.Reader.{the_module, reader_checks, module_of}
 use Rattle.rules.specs.Relocations.{relocations_check}
@@ -12,7 +12,6 @@ use Rattle.rules.specs.Lending.{lending_check}
 use Rattle.rules.specs.Addresses.{addresses_check}
 use Rattle.rules.specs.Choices.{choices_check}
 use Rattle.rules.specs.Load.{Loaded, load_of, loaded, call_checks, load_checks}
-use Rattle.rules.specs.declared.Refusal.{Refusal}
 use Rattle.rules.specs.declared.Module.{Module}
 use Rattle.rules.proofs.OutcomeLaws.{good_bad, never, and_then_good}
 use Rattle.rules.proofs.ChecksLaws.{all_runs, runs_all, first_runs, runs-first}

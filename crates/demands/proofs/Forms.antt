@@ -10,10 +10,9 @@ use native.Mathlib.Omega.{arith}
 use lib.ListN.{length, drop, length-append}
 use lib.Dec.{eqb}
 use borrow.Author.Tests.{lt-ltb, le-ltb, eqb-true, eqb-false, ne_eqb}
-use Rattle.rules.specs.Outcome.{good, bad, refusal}
+use Rattle.rules.specs.Outcome.{good, bad, refusal, Refusal}
 use Rattle.rules.specs.Descriptors.{Uleb, number, malformed, uleb_at, size_limit, short_at, Descriptor, saying, second, descriptor}
 use Rattle.rules.specs.Writer.{uleb, descriptor_of}
-use Rattle.rules.specs.declared.Refusal.{Refusal}
 use Rattle.rules.proofs.OutcomeLaws.{good_bad, bad_good}
 use Rattle.rules.proofs.UlebLaws.{Past, number_stands}
 use Rattle.laws.proofs.Checks.{good_same, le_or_lt}

@@ -1,5 +1,6 @@
 -- After checks 1 to 4 the guards of the rules ask nothing.
 -- Assumes nothing.
+use Rattle.std.specs.Prelude.{None}
 use Prim.Native.Nat.{ℕ, ◌+◌, ◌*◌, ◌≤◌, ◌<◌}
 use mathlib.Core.Path.{◌≡◌, refl, sym}
 use mathlib.Core.Bool.{Bool, true, false, cond, ◌&&◌}
@@ -15,7 +16,6 @@ use Rattle.rules.specs.Checks.{runs}
 use Rattle.rules.specs.Segments.{header_at, is_load, loads_check, covers, backs, backs_at, backer, backing_of}
 use Rattle.rules.specs.Relocations.{symbol_backing}
 use Rattle.rules.specs.declared.Headers.{Headers}
-use Rattle.rules.specs.declared.Backing.TheVariants.{Nowhere}
 use Rattle.rules.proofs.OutcomeLaws.{and_left, and_right, and_then_good, require_held}
 use Rattle.rules.proofs.ChecksLaws.{runs_all}
 use Rattle.laws.proofs.Checks.{all_end}
@@ -58,11 +58,11 @@ module _ (f : List ℕ) (h : Headers) (headers : headers_of f ≡ good h) (loads
           let y = g.sized in
           absurd (omega arith)
 
-  symbol-backed : (a n : ℕ) → cond (leb a memory_limit) (backing_of f h a n) Nowhere ≡ backing_of f h a n
+  symbol-backed : (a n : ℕ) → cond (leb a memory_limit) (backing_of f h a n) None ≡ backing_of f h a n
   unfolding backing_of backer
   symbol-backed a n = go (leb a memory_limit) refl
     where
-      go : (b : Bool) → leb a memory_limit ≡ b → cond b (backing_of f h a n) Nowhere ≡ backing_of f h a n
+      go : (b : Bool) → leb a memory_limit ≡ b → cond b (backing_of f h a n) None ≡ backing_of f h a n
       go true q = refl
       go false q =
           let e = all_end (backs_at f h a n) h.count (λ i l. high a n i (leb-false a memory_limit q) l) in

@@ -8,9 +8,8 @@ use native.Mathlib.Nat.{eq-or-lt_of_le}
 use native.Mathlib.Omega.{arith}
 use lib.Dec.{eqb}
 use borrow.Author.Tests.{eqb-false}
-use Rattle.rules.specs.Outcome.{Outcome, good, bad, refusal, refuse}
+use Rattle.rules.specs.Outcome.{Outcome, good, bad, refusal, refuse, Refusal}
 use Rattle.rules.specs.First.{first, faultless}
-use Rattle.rules.specs.declared.Refusal.{Refusal}
 use Rattle.rules.proofs.FirstLaws.{first-le, first_true, first_below, first_end, faultless-hit}
 use Rattle.laws.proofs.Checks.{le_or_lt}
 use Rattle.demands.specs.Table.{Clear, Lowest}

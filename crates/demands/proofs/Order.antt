@@ -6,7 +6,7 @@ use mathlib.Core.Bool.{Bool, true}
 use mathlib.Core.List.{List, [], ◌∷◌, ◌++◌}
 use lib.Dec.{eqb}
 use borrow.Author.Tests.{eq-eqb}
-use Rattle.rules.specs.Outcome.{Outcome, good, bad, refusal, passed}
+use Rattle.rules.specs.Outcome.{Outcome, good, bad, refusal, passed, Refusal}
 use Rattle.rules.specs.Checks.{Check}
 use Rattle.rules.specs.First.{first, faults_at}
 use Rattle.rules.specs.Headers.{the_headers}
@@ -16,7 +16,6 @@ use Rattle.rules.specs.Lending.{memory_fits}
 use Rattle.rules.specs.Choices.{globals_in}
 use Rattle.rules.specs.Examine.{module_checks, examine_checks}
 use Rattle.rules.specs.Load.{call_checks, load_checks}
-use Rattle.rules.specs.declared.Refusal.{Refusal}
 use Rattle.rules.proofs.OutcomeLaws.{good_bad}
 use Rattle.laws.proofs.Checks.{require_stopped}
 use Rattle.demands.proofs.Lowest.{cond_bad}

@@ -1,5 +1,6 @@
 -- Check 15 refuses where the table is not backed, at a first word that is a bitmap, or at the word whose places are too many.
 -- Assumes nothing.
+use Rattle.std.specs.Prelude.{Option, Some}
 use Prim.Native.Nat.{ℕ, zero, suc, ◌+◌, ◌/◌, ◌%◌, ◌≤◌, ◌<◌}
 use mathlib.Core.Path.{◌≡◌, refl, sym, ap, ◌∙◌, subst}
 use mathlib.Core.Bool.{Bool, true, false}
@@ -11,15 +12,12 @@ use native.Mathlib.Omega.{arith}
 use lib.ListN.{length}
 use lib.Dec.{eqb}
 use borrow.Author.Tests.{eqb-true, eqb-false, ltb-true, ltb-false, lt-ltb, le-ltb}
-use Rattle.rules.specs.Outcome.{bad, refusal}
+use Rattle.rules.specs.Outcome.{bad, refusal, Refusal}
 use Rattle.rules.specs.Limits.{entry_limit}
 use Rattle.rules.specs.Bytes.{le}
 use Rattle.rules.specs.Tables.{table_backing, backed, packed_address, packed_bytes}
 use Rattle.rules.specs.Packed.{Named, packed_word, packed_before, bad_word, words_check, packed_of}
-use Rattle.rules.specs.declared.Refusal.{Refusal}
 use Rattle.rules.specs.declared.Headers.{Headers}
-use Rattle.rules.specs.declared.Backing.{Backing}
-use Rattle.rules.specs.declared.Backing.TheVariants.{At}
 use Rattle.rules.specs.declared.Dynamic.{Dynamic}
 use Rattle.rules.specs.declared.Relocations.{Relocations}
 use Rattle.rules.proofs.OutcomeLaws.{good_bad}
@@ -70,13 +68,13 @@ module _ (f : List ℕ) (at entries n : ℕ) (few : entries ≤ entry_limit) whe
       (eq-or-lt_of_le (omega arith))
 
 module _ (f : List ℕ) (h : Headers) (d : Dynamic) (r : Relocations) (few : r.entries ≤ entry_limit) where
-  abbrev backing : Backing
+  abbrev backing : Option ℕ
   backing = table_backing f h (packed_address f d) (packed_bytes f d)
 
   abbrev count : ℕ
   count = packed_bytes f d / 8
 
-  lowest_fault : (at i : ℕ) → backing ≡ At at → Lowest (bad_word f at r.entries) 0 count i → PackedFault f h d r.entries i
+  lowest_fault : (at i : ℕ) → backing ≡ Some at → Lowest (bad_word f at r.entries) 0 count i → PackedFault f h d r.entries i
   lowest_fault at i b l = go (eqb (packed_word f at 0 % 2) 0) refl
     where
       go : (even : Bool) → eqb (packed_word f at 0 % 2) 0 ≡ even → PackedFault f h d r.entries i
@@ -102,7 +100,7 @@ module _ (f : List ℕ) (h : Headers) (d : Dynamic) (r : Relocations) (few : r.e
       (l.0, (l.1.1, lowest_fault at l.0 (backed_good 15 0 at backing a) l.1.0)))
       (λ _ _ s. good_bad s))
 
-  at_lowest : (at i : ℕ) → backing ≡ At at → Lowest (bad_word f at r.entries) 0 count i → packed_of f h d r ≡ bad (refusal 15 i)
+  at_lowest : (at i : ℕ) → backing ≡ Some at → Lowest (bad_word f at r.entries) 0 count i → packed_of f h d r ≡ bad (refusal 15 i)
   unfolding packed_of
   at_lowest at i b l = let w = lowest_faultless (bad_word f at r.entries) 15 count i l in rw (b, w)
 

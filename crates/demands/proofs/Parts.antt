@@ -1,5 +1,6 @@
 -- The header, PT_LOADs and what they hold: each test of the rules is document 01's sentence.
 -- Assumes nothing.
+use Rattle.std.specs.Prelude.{Some, None}
 use Prim.Native.Nat.{ℕ, zero, suc, ◌+◌, ◌*◌, ◌-◌, ◌/◌, ◌%◌, ◌^◌, ◌≤◌, ◌<◌}
 use mathlib.Core.Path.{◌≡◌, refl, sym, ap, ◌∙◌}
 use mathlib.Core.Bool.{Bool, true, false, cond, not, ◌&&◌, ◌||◌, or-true}
@@ -19,7 +20,6 @@ use Rattle.rules.specs.Segments.{header_at, power_below, aligned, good_load, end
 use Rattle.rules.specs.Segments.{backs_at, backer, backing_of, holds, holds_at, in_memory}
 use Rattle.rules.specs.Tables.{table_backing}
 use Rattle.rules.specs.declared.Headers.{Headers}
-use Rattle.rules.specs.declared.Backing.TheVariants.{At, Nowhere}
 use Rattle.rules.proofs.FirstLaws.{first-le, first_true, first_below, at_some}
 use Rattle.rules.proofs.OutcomeLaws.{true_false, false_true, and_left, and_right, require_held}
 use Rattle.laws.proofs.Checks.{and_false, le_or_lt, some_at}
@@ -281,14 +281,14 @@ module _ (f : List ℕ) where
         (idle f H headed loaded).backed a n i l.listed
         ∙ rw (eq-eqb (type_at f i) 1 l.loads, within_covers (vaddr_at f i) (filesz_at f i) a n u v)
 
-    backing_part : (x : ℕ) → backing_of f H a n ≡ At x → Backed f a n x
+    backing_part : (x : ℕ) → backing_of f H a n ≡ Some x → Backed f a n x
     unfolding backing_of backer header_at
     backing_part x e = go (ltb i (header_count f)) refl e
       where
         i : ℕ
         i = first (backs_at f H a n) 0 (header_count f)
 
-        go : (b : Bool) → ltb i (header_count f) ≡ b → cond b (At (offset_at f i + (a - vaddr_at f i))) Nowhere ≡ At x → Backed f a n x
+        go : (b : Bool) → ltb i (header_count f) ≡ b → cond b (Some (offset_at f i + (a - vaddr_at f i))) None ≡ Some x → Backed f a n x
         go false q x = absurd (let z : ◌≡◌ {A = ℕ} 0 1 = cc in omega arith)
         go true q e =
             let l = ltb-true i (header_count f) q in
@@ -309,7 +309,7 @@ module _ (f : List ℕ) where
         let y = t.1 in
         omega arith
 
-    part_backing : (x : ℕ) → 0 < n → Backed f a n x → backing_of f H a n ≡ At x
+    part_backing : (x : ℕ) → 0 < n → Backed f a n x → backing_of f H a n ≡ Some x
     unfolding backing_of backer header_at
     part_backing x pos b =
         let k = b.header in
@@ -334,21 +334,21 @@ module _ (f : List ℕ) where
             let u = b.load.listed in
             absurd (one_backs i b.header pos (omega arith) u (first_true (backs_at f H a n) (header_count f) 0 (omega arith)) p l)
 
-    pub backing : (x : ℕ) → 0 < n → (backing_of f H a n ≡ At x) ↔ Backed f a n x
+    pub backing : (x : ℕ) → 0 < n → (backing_of f H a n ≡ Some x) ↔ Backed f a n x
     backing x pos = (backing_part x, part_backing x pos)
 
-    backing_table : (x : ℕ) → table_backing f H a n ≡ At x → TableAt f a n x
+    backing_table : (x : ℕ) → table_backing f H a n ≡ Some x → TableAt f a n x
     unfolding table_backing
     backing_table x e = go (eqb n 0) refl e
       where
-        go : (b : Bool) → eqb n 0 ≡ b → cond b (At 0) (backing_of f H a n) ≡ At x → TableAt f a n x
+        go : (b : Bool) → eqb n 0 ≡ b → cond b (Some 0) (backing_of f H a n) ≡ Some x → TableAt f a n x
         go true q y = let z : 0 ≡ x = cc in empty (eqb-true n 0 q) (sym z)
         go false q y = let ne = eqb-false n 0 q in backed (omega arith) (backing_part x y)
 
-    table_backing_lem : (x : ℕ) → TableAt f a n x → table_backing f H a n ≡ At x
+    table_backing_lem : (x : ℕ) → TableAt f a n x → table_backing f H a n ≡ Some x
     unfolding table_backing
     table_backing_lem x (empty z q) = rw (z, q)
     table_backing_lem x (backed pos b) = rw (ne_eqb n 0 (λ z. omega arith)) (part_backing x pos b)
 
-    pub table : (x : ℕ) → (table_backing f H a n ≡ At x) ↔ TableAt f a n x
+    pub table : (x : ℕ) → (table_backing f H a n ≡ Some x) ↔ TableAt f a n x
     table x = (backing_table x, table_backing_lem x)

@@ -10,13 +10,12 @@ use lib.ListN.{length, get_or}
 use lib.Seq.{ext_get_or}
 use lib.Dec.{eqb, leb}
 use borrow.Author.Tests.{eq-eqb, ne_eqb, eqb-true, eqb-false, leb-true, leb-false, le-leb, not-true}
-use Rattle.rules.specs.Outcome.{Outcome, good, bad, require}
+use Rattle.rules.specs.Outcome.{Outcome, good, bad, require, Refusal}
 use Rattle.rules.specs.Checks.{All, First}
 use Rattle.rules.specs.Limits.{address_limit, granule}
 use Rattle.rules.specs.First.{first}
 use Rattle.rules.specs.Picker.{tag_count, allowed, tag_up, barred_at, suits, pick_of, picks_of, tags_needed, tags_allowed}
 use Rattle.rules.specs.Picker.{picker_checks, picked_of, globals_after, choices_after}
-use Rattle.rules.specs.declared.Refusal.{Refusal}
 use Rattle.rules.proofs.OutcomeLaws.{good_bad, bad_good, true_false, and_left, and_right, require_held, require_true, require_false}
 use Rattle.rules.proofs.BoolLaws.{cond_case}
 use Rattle.rules.proofs.FirstLaws.{first_below}

@@ -1,5 +1,6 @@
 -- The plain loader's own addresses, checks and memory are those of the load without its tags.
 -- Assumes nothing.
+use Rattle.std.specs.Prelude.{Option, Some, None}
 use Prim.Native.Nat.{ℕ, zero, suc, ◌+◌, ◌/◌, ◌%◌, ◌≤◌, ◌<◌}
 use mathlib.Core.Path.{◌≡◌, refl, sym, ap, ◌∙◌}
 use mathlib.Core.Bool.{Bool, true, false, cond, not, ◌&&◌, ◌||◌}
@@ -31,10 +32,6 @@ use Rattle.rules.specs.Lending.{memory_fits}
 use Rattle.rules.specs.Image.{loads_over, loaded_at}
 use Rattle.rules.specs.Words.{writes}
 use Rattle.rules.specs.declared.Headers.{Headers}
-use Rattle.rules.specs.declared.Backing.{Backing}
-use Rattle.rules.specs.declared.Backing.TheVariants as backing
-use Rattle.rules.specs.declared.Entry.{Entry}
-use Rattle.rules.specs.declared.Entry.TheVariants.{Absent, Value}
 use Rattle.rules.specs.declared.Module.{Module}
 use Rattle.rules.specs.declared.Target.{Target}
 use Rattle.rules.specs.declared.Target.TheVariants.{Base, Defined, Undefined, Barred}
@@ -65,10 +62,10 @@ in_range_same (pos x) h = refl
 in_range_same (negsuc x) h = search never
 
 -- a symbol that is allowed has the address that its target has
-named_base : (f : List ℕ) (bias : ℕ) (p : Backing) → barred (named_target f p) ≡ false → base_of bias (named_target f p) ≡ symbol_address f bias p
+named_base : (f : List ℕ) (bias : ℕ) (p : Option ℕ) → barred (named_target f p) ≡ false → base_of bias (named_target f p) ≡ symbol_address f bias p
 unfolding named_target target_of symbol_of
-named_base f bias backing.Nowhere h = search never
-named_base f bias (backing.At at) h =
+named_base f bias None h = search never
+named_base f bias (Some at) h =
     go (eqb ((symbol_of f at).info % 16) 6 || eqb ((symbol_of f at).info % 16) 10) (leb 0xff00 (le 2 f (at + 6))) (eqb (le 2 f (at + 6)) 0)
     (eqb ((symbol_of f at).info / 16) 2) h
   where
@@ -82,7 +79,7 @@ named_base f bias (backing.At at) h =
     go false false true false h = search never
     go false false false e h = refl
 
-target_base : (f : List ℕ) (h : Headers) (symbols : Entry) (bias kind symbol : ℕ) → barred (target f h symbols kind symbol) ≡ false
+target_base : (f : List ℕ) (h : Headers) (symbols : Option ℕ) (bias kind symbol : ℕ) → barred (target f h symbols kind symbol) ≡ false
     → pos (base_of bias (target f h symbols kind symbol))
     ≡ cond (eqb kind relative) (pos bias) (pos (symbol_address f bias (symbol_backing f h symbol symbols)))
 unfolding target
@@ -104,10 +101,10 @@ target_base f h symbols bias kind symbol t =
 
 module _ (f : List ℕ) (m : Module) (headed : headers_of f ≡ good m.headers) (loads : loads_check f m.headers ≡ good tt) where
   -- a symbol's entry, without the guard of the rules
-  entry_same : (symbols : Entry) (n : ℕ) → symbol_backing f m.headers n symbols ≡ symbol_entry f m.headers symbols n
+  entry_same : (symbols : Option ℕ) (n : ℕ) → symbol_backing f m.headers n symbols ≡ symbol_entry f m.headers symbols n
   unfolding symbol_backing
-  entry_same Absent n = refl
-  entry_same (Value table) n = (idle f m.headers headed loads).symbol-backed n table
+  entry_same None n = refl
+  entry_same (Some table) n = (idle f m.headers headed loads).symbol-backed n table
 
   -- an entry and a packed place, each by its own operation
   entry_address : (bias k : ℕ) → barred (target f m.headers m.symbols (kind_at f m k) (symbol_at f m k)) ≡ false
@@ -116,7 +113,7 @@ module _ (f : List ℕ) (m : Module) (headed : headers_of f ≡ good m.headers) 
   entry_address bias k t =
       ap (λ (b : ℤ). b +ℤ signed (addend_at f m k))
       (target_base f m.headers m.symbols bias (kind_at f m k) (symbol_at f m k) t
-      ∙ ap (λ (p : Backing). cond (eqb (kind_at f m k) relative) (pos bias) (pos (symbol_address f bias p)))
+      ∙ ap (λ (p : Option ℕ). cond (eqb (kind_at f m k) relative) (pos bias) (pos (symbol_address f bias p)))
       (entry_same m.symbols (symbol_at f m k)))
 
   -- what is not skipped

@@ -8,7 +8,7 @@ use mathlib.Core.Logic.{◌⊎◌, inl, inr, ⊎_elim}
 use native.Mathlib.Omega.{arith}
 use lib.Dec.{eqb}
 use borrow.Author.Tests.{eqb-true, eqb-false}
-use Rattle.rules.specs.Outcome.{Outcome, good, bad, refusal, passed}
+use Rattle.rules.specs.Outcome.{Outcome, good, bad, refusal, passed, Refusal}
 use Rattle.rules.specs.Checks.{Check, All, First}
 use Rattle.rules.specs.Limits.{entry_limit}
 use Rattle.rules.specs.First.{faults_at}
@@ -24,7 +24,6 @@ use Rattle.rules.specs.Addresses.{addresses_check}
 use Rattle.rules.specs.Choices.{globals_in}
 use Rattle.rules.specs.Image.{image_of}
 use Rattle.rules.specs.Load.{Loaded, load_checks, load_of}
-use Rattle.rules.specs.declared.Refusal.{Refusal}
 use Rattle.rules.specs.declared.Headers.{Headers}
 use Rattle.rules.specs.declared.Dynamic.{Dynamic}
 use Rattle.rules.specs.declared.Relocations.{Relocations}

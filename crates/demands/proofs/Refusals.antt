@@ -1,5 +1,6 @@
 -- Every refusal has a number of its call and a position within bounds, and the facts' counts are within theirs.
 -- Assumes nothing.
+use Rattle.std.specs.Prelude.{Option, Some, None}
 use Prim.Native.Nat.{ℕ, ◌/◌, ◌%◌, ◌≤◌, ◌<◌}
 use mathlib.Core.Path.{◌≡◌, refl, sym, ap, ◌∙◌, subst}
 use mathlib.Core.Bool.{Bool, true, false, not, ◌&&◌, ◌||◌}
@@ -9,7 +10,7 @@ use native.Mathlib.Omega.{arith}
 use lib.ListN.{length}
 use lib.Dec.{leb, ltb, eqb}
 use borrow.Author.Tests.{leb-true, ltb-true, eqb-true}
-use Rattle.rules.specs.Outcome.{Outcome, good, bad, refusal, found, passed, require}
+use Rattle.rules.specs.Outcome.{Outcome, good, bad, refusal, found, passed, require, Refusal}
 use Rattle.rules.specs.Checks.{Check, All, First}
 use Rattle.rules.specs.Limits.{entry_limit, global_limit, header_limit, dynamic_limit}
 use Rattle.rules.specs.Bytes.{le}
@@ -24,10 +25,7 @@ use Rattle.rules.specs.Examine.{facts_of, module_checks, examine_checks, examine
 use Rattle.rules.specs.Addresses.{bad_address}
 use Rattle.rules.specs.Choices.{globals_in}
 use Rattle.rules.specs.Load.{Loaded, load_of, load_checks}
-use Rattle.rules.specs.declared.Refusal.{Refusal}
 use Rattle.rules.specs.declared.Headers.{Headers}
-use Rattle.rules.specs.declared.Backing.{Backing}
-use Rattle.rules.specs.declared.Backing.TheVariants.{At, Nowhere}
 use Rattle.rules.specs.declared.Dynamic.{Dynamic}
 use Rattle.rules.specs.declared.Relocations.{Relocations}
 use Rattle.rules.specs.declared.Descriptors.{Descriptors}
@@ -163,10 +161,10 @@ header_count_holds size kind machine version width count table h =
     let e = and_left (leb 1 count && leb count header_limit) _ d in
     leb-true count header_limit (and_right (leb 1 count) _ e)
 
-dynamic_at_entries : (f : List ℕ) (i size : ℕ) (p : Backing) (d : Dynamic) → dynamic_at f i size p ≡ good d → d.entries ≤ dynamic_limit / 16
+dynamic_at_entries : (f : List ℕ) (i size : ℕ) (p : Option ℕ) (d : Dynamic) → dynamic_at f i size p ≡ good d → d.entries ≤ dynamic_limit / 16
 unfolding dynamic_at good_size
-dynamic_at_entries f i size Nowhere d e = bad_good e
-dynamic_at_entries f i size (At at) d e =
+dynamic_at_entries f i size None d e = bad_good e
+dynamic_at_entries f i size (Some at) d e =
     let c = cond_held _ (good_size size && ltb (null_entry f at (size / 16)) (size / 16)) _ e in
     let s = and_right (leb 16 size) _ (and_right (eqb (size % 16) 0) _ (and_left (good_size size) _ c.0)) in
     let b = leb-true size dynamic_limit s in

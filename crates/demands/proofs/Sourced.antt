@@ -1,5 +1,6 @@
 -- Each word's tag source in raw words.
 -- Assumes nothing.
+use Rattle.std.specs.Prelude.{Option, Some, None}
 use Prim.Native.Nat.{ℕ, zero, suc, ◌+◌, ◌%◌, ◌^◌, ◌≤◌, ◌<◌}
 use mathlib.Core.Path.{◌≡◌, refl, sym, ap, ◌∙◌}
 use mathlib.Core.Bool.{Bool, true, false, cond, ◌||◌}
@@ -19,8 +20,6 @@ use Rattle.rules.specs.Relocations.{symbol_backing, target_of, named_target, tar
 use Rattle.rules.specs.Image.{byte_of, loaded_in, loaded_at}
 use Rattle.rules.specs.Words.{at, source_of, source_at}
 use Rattle.rules.specs.declared.Headers.{Headers}
-use Rattle.rules.specs.declared.Backing.{Backing}
-use Rattle.rules.specs.declared.Backing.TheVariants.{At, Nowhere}
 use Rattle.rules.specs.declared.Module.{Module}
 use Rattle.rules.specs.declared.Target.{Target}
 use Rattle.rules.specs.declared.Target.TheVariants.{Base, Defined, Undefined, Barred}
@@ -41,9 +40,9 @@ use Rattle.demands.specs.Demands.{Relocates, Sourced}
 use Rattle.demands.specs.Demands as demand
 
 -- numbers of eight bytes
-byte_below : (f : List ℕ) (p : Backing) → Bytes f → byte_of f p < 256
-byte_below f Nowhere b = omega arith
-byte_below f (At x) b = b x
+byte_below : (f : List ℕ) (p : Option ℕ) → Bytes f → byte_of f p < 256
+byte_below f None b = omega arith
+byte_below f (Some x) b = b x
 
 loaded_below : (f : List ℕ) (h : Headers) (n a : ℕ) → Bytes f → loaded_in f h n a < 256 ^ n
 unfolding loaded_in
@@ -70,12 +69,12 @@ module _ (f : List ℕ) (m : Module) (reads : Reads f m) (bytes : Bytes f) (bias
     kind_same = info_kind f bytes m.relocations.at k
 
     -- a symbol by its entry
-    named_sourced : (kinds : (kind_in f m k ≡ 257) ⊎ (kind_in f m k ≡ 1025)) (p : Backing)
+    named_sourced : (kinds : (kind_in f m k ≡ 257) ⊎ (kind_in f m k ≡ 1025)) (p : Option ℕ)
         → symbol_backing f m.headers (symbol_at f m k) m.symbols ≡ p → barred (named_target f p) ≡ false
         → Sourced f bias m image k (source_of bias (named_target f p) A L)
     unfolding named_target target_of relocation.symbol_of
-    named_sourced kinds Nowhere e h = true_false h
-    named_sourced kinds (At x) e h =
+    named_sourced kinds None e h = true_false h
+    named_sourced kinds (Some x) e h =
         go (eqb (symbol_type f x) 6 || eqb (symbol_type f x) 10) (leb 0xff00 (symbol_section f x)) (eqb (symbol_section f x) 0) refl
         (eqb (symbol_binding f x) 2) h
       where

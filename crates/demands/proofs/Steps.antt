@@ -9,11 +9,10 @@ use native.Mathlib.Omega.{arith}
 use lib.ListN.{length}
 use lib.Dec.{leb, ltb, eqb}
 use borrow.Author.Tests.{leb-true, leb-false, ltb-true, eqb-true, eqb-false}
-use Rattle.rules.specs.Outcome.{good, bad, refusal, require}
+use Rattle.rules.specs.Outcome.{good, bad, refusal, require, Refusal}
 use Rattle.rules.specs.Limits.{address_limit, granule}
 use Rattle.rules.specs.Descriptors.{uleb_at, short_at, Descriptor, descriptor, Read, finished, global, end_after, said_after}
 use Rattle.rules.specs.Descriptors.{global_after, judged, read_at, step_at}
-use Rattle.rules.specs.declared.Refusal.{Refusal}
 use Rattle.rules.specs.declared.Global.{Global}
 use Rattle.rules.specs.declared.Cursor.{Cursor}
 use Rattle.rules.proofs.OutcomeLaws.{good_bad, require_held}

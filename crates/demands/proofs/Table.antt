@@ -1,5 +1,6 @@
 -- Each check refuses as its row of the table says, and no other way.
 -- Assumes nothing.
+use Rattle.std.specs.Prelude.{Option, Some, None}
 use Prim.Native.Nat.{ℕ, zero, suc, ◌+◌, ◌*◌, ◌-◌, ◌/◌, ◌≤◌, ◌<◌}
 use mathlib.Core.Path.{◌≡◌, refl, sym, ap, ◌∙◌, subst}
 use mathlib.Core.Bool.{Bool, true, false, cond, not, ◌&&◌}
@@ -11,7 +12,7 @@ use native.Mathlib.Omega.{arith}
 use lib.ListN.{length}
 use lib.Dec.{leb, ltb, eqb}
 use borrow.Author.Tests.{leb-false, lt-leb, ltb-true, ltb-false, lt-ltb, le-ltb, eqb-true, eqb-false, eq-eqb, ne_eqb, not-true, not-false}
-use Rattle.rules.specs.Outcome.{Outcome, good, bad, refusal, and_then, require}
+use Rattle.rules.specs.Outcome.{Outcome, good, bad, refusal, and_then, require, Refusal}
 use Rattle.rules.specs.Limits.{file_least, file_limit, entry_limit, global_limit, granule}
 use Rattle.rules.specs.First.{first, some_below, faults_at, faultless}
 use Rattle.rules.specs.Headers.{size_check, wrong_byte, identification_check, header_check}
@@ -24,12 +25,9 @@ use Rattle.rules.specs.Relocations.{items, position_at, target_at, barred, bad_r
 use Rattle.rules.specs.Lending.{lending_fits, lending_check}
 use Rattle.rules.specs.Addresses.{bad_address, addresses_check}
 use Rattle.rules.specs.Choices.{bad_choice, choices_for}
-use Rattle.rules.specs.declared.Refusal.{Refusal}
 use Rattle.rules.specs.declared.Headers.{Headers}
 use Rattle.rules.specs.declared.Dynamic.{Dynamic}
 use Rattle.rules.specs.declared.Known.{Known}
-use Rattle.rules.specs.declared.Backing.{Backing}
-use Rattle.rules.specs.declared.Backing.TheVariants.{At, Nowhere}
 use Rattle.rules.specs.declared.Relocations.{Relocations}
 use Rattle.rules.specs.declared.Descriptors.{Descriptors}
 use Rattle.rules.specs.declared.Global.{Global}
@@ -86,17 +84,17 @@ row_size f (inr l) = go (leb file_least (length f))
 
 -- ---- check 5
 
-dynamic_at-refusal : {r : Refusal} (f : List ℕ) (i size : ℕ) (p : Backing) → dynamic_at f i size p ≡ bad r → r ≡ refusal 5 i
+dynamic_at-refusal : {r : Refusal} (f : List ℕ) (i size : ℕ) (p : Option ℕ) → dynamic_at f i size p ≡ bad r → r ≡ refusal 5 i
 unfolding dynamic_at
-dynamic_at-refusal f i size Nowhere e = cc
-dynamic_at-refusal f i size (At at) e =
+dynamic_at-refusal f i size None e = cc
+dynamic_at-refusal f i size (Some at) e =
     cond_bad (good_size size && ltb (null_entry f at (size / 16)) (size / 16)) _ (refusal 5 i) e
     (λ _ q. search never) (λ _ q. q)
 
 -- ---- check 7
 
 relocations_row : {r : Refusal} (f : List ℕ) (h : Headers) (d : Dynamic) → relocations_of f h d ≡ bad r
-    → ((table_backing f h (rela_address f d) (rela_bytes f d) ≡ Nowhere) ⊎ (entry_limit < rela_bytes f d / 24)) × (r ≡ refusal 7 0)
+    → ((table_backing f h (rela_address f d) (rela_bytes f d) ≡ None) ⊎ (entry_limit < rela_bytes f d / 24)) × (r ≡ refusal 7 0)
 unfolding relocations_of
 relocations_row f h d e =
     and_then_bad (backed 7 0 (table_backing f h (rela_address f d) (rela_bytes f d))) _ e
@@ -106,25 +104,25 @@ relocations_row f h d e =
     (λ _ _ q. good_bad q))
 
 row_relocations : (f : List ℕ) (h : Headers) (d : Dynamic)
-    → (table_backing f h (rela_address f d) (rela_bytes f d) ≡ Nowhere) ⊎ (entry_limit < rela_bytes f d / 24) → relocations_of f h d ≡ bad (refusal 7 0)
+    → (table_backing f h (rela_address f d) (rela_bytes f d) ≡ None) ⊎ (entry_limit < rela_bytes f d / 24) → relocations_of f h d ≡ bad (refusal 7 0)
 unfolding relocations_of
 row_relocations f h d (inl e) = rw e
 row_relocations f h d (inr l) = go (table_backing f h (rela_address f d) (rela_bytes f d))
   where
-    go : (p : Backing) → and_then {B = Relocations} (backed 7 0 p) (λ at. and_then (require (leb (rela_bytes f d / 24) entry_limit) 7 0) (λ _.
+    go : (p : Option ℕ) → and_then {B = Relocations} (backed 7 0 p) (λ at. and_then (require (leb (rela_bytes f d / 24) entry_limit) 7 0) (λ _.
         good (record { at = at; entries = rela_bytes f d / 24 }))) ≡ bad (refusal 7 0)
-    go Nowhere = refl
-    go (At at) = rw (lt-leb (rela_bytes f d / 24) entry_limit l)
+    go None = refl
+    go (Some at) = rw (lt-leb (rela_bytes f d / 24) entry_limit l)
 
 descriptors_row : {r : Refusal} (f : List ℕ) (h : Headers) (d : Dynamic) → descriptors_of f h d ≡ bad r
-    → (table_backing f h (descriptor_address f d) (descriptor_bytes f d) ≡ Nowhere) × (r ≡ refusal 7 1)
+    → (table_backing f h (descriptor_address f d) (descriptor_bytes f d) ≡ None) × (r ≡ refusal 7 1)
 unfolding descriptors_of
 descriptors_row f h d e =
     and_then_bad (backed 7 1 (table_backing f h (descriptor_address f d) (descriptor_bytes f d))) _ e
     (backed_bad 7 1 (table_backing f h (descriptor_address f d) (descriptor_bytes f d)))
     (λ _ _ q. search never)
 
-row_descriptors : (f : List ℕ) (h : Headers) (d : Dynamic) → table_backing f h (descriptor_address f d) (descriptor_bytes f d) ≡ Nowhere
+row_descriptors : (f : List ℕ) (h : Headers) (d : Dynamic) → table_backing f h (descriptor_address f d) (descriptor_bytes f d) ≡ None
     → descriptors_of f h d ≡ bad (refusal 7 1)
 unfolding descriptors_of
 row_descriptors f h d e = rw e

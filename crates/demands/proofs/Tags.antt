@@ -7,7 +7,7 @@ use mathlib.Core.Logic.{inl, inr, ⊎_elim}
 use native.Mathlib.Nat.{eq-or-lt_of_le}
 use native.Mathlib.Omega.{arith}
 use lib.ListN.{length, get_or}
-use Rattle.rules.specs.Outcome.{good, bad}
+use Rattle.rules.specs.Outcome.{good, bad, Refusal}
 use Rattle.rules.specs.Checks.{Check}
 use Rattle.rules.specs.Bytes.{le}
 use Rattle.rules.specs.Segments.{loads_end}
@@ -18,7 +18,6 @@ use Rattle.rules.specs.Image.{image_of, loaded_at}
 use Rattle.rules.specs.Words.{at, source_at, writes}
 use Rattle.rules.specs.Load.{load_of, loaded}
 use Rattle.rules.specs.Memory.{bytes_of}
-use Rattle.rules.specs.declared.Refusal.{Refusal}
 use Rattle.rules.specs.declared.Global.{Global}
 use Rattle.rules.specs.declared.Module.{Module}
 use Rattle.laws.proofs.Checks.{le_or_lt}

@@ -1,5 +1,6 @@
 -- Where a module's tables stand, and its kinds, symbols and places: each test of the rules is document 01's sentence.
 -- Assumes nothing.
+use Rattle.std.specs.Prelude.{Option, Some, None}
 use Prim.Native.Nat.{ℕ, ◌+◌, ◌*◌, ◌/◌, ◌%◌, ◌≤◌, ◌<◌, ◌∣◌}
 use mathlib.Core.Path.{◌≡◌, refl, sym, ap, ◌∙◌, subst}
 use mathlib.Core.Bool.{Bool, true, false, cond, not, ◌&&◌, ◌||◌}
@@ -24,10 +25,6 @@ use Rattle.rules.specs.Relocations as relocations
 use Rattle.rules.specs.Reader.{the_dynamic, the_relocations, the_packed, the_descriptors, the_module, module_of}
 use Rattle.rules.specs.declared.Headers.{Headers}
 use Rattle.rules.specs.declared.Dynamic.{Dynamic}
-use Rattle.rules.specs.declared.Entry.{Entry}
-use Rattle.rules.specs.declared.Entry.TheVariants as entry
-use Rattle.rules.specs.declared.Backing.{Backing}
-use Rattle.rules.specs.declared.Backing.TheVariants.{At, Nowhere}
 use Rattle.rules.specs.declared.Target.{Target}
 use Rattle.rules.specs.declared.Target.TheVariants.{Base, Defined, Undefined, Barred}
 use Rattle.rules.specs.declared.Relocations.{Relocations}
@@ -58,7 +55,7 @@ use Rattle.demands.specs.Sentences.{Means, Clears, TableTags, ItemSentences}
 
 -- its value, 0 where it is absent
 given : (f : List ℕ) (d : Dynamic) (tag : ℕ) → Given f d tag (or_zero (entry_of f d tag))
-given f d tag = entry_case f d tag (λ (e : Entry). Given f d tag (or_zero e)) (λ l. inr (l, refl)) (λ v h. inl h)
+given f d tag = entry_case f d tag (λ (e : Option ℕ). Given f d tag (or_zero e)) (λ l. inr (l, refl)) (λ v h. inl h)
 
 -- ---- symbols
 
@@ -135,7 +132,7 @@ module _ (f : List ℕ) where
         multiple_given f D 35 8 (packed_bytes f D) (tagged_multiple 35 8 (λ i l e. (each i l).elf_value.relrsz e)) (given f D relrsz)
 
     -- a table by its two tags
-    standing : (address_tag bytes_tag x : ℕ) → table_backing f H (or_zero (entry_of f D address_tag)) (or_zero (entry_of f D bytes_tag)) ≡ At x
+    standing : (address_tag bytes_tag x : ℕ) → table_backing f H (or_zero (entry_of f D address_tag)) (or_zero (entry_of f D bytes_tag)) ≡ Some x
         → TableBy f D address_tag bytes_tag x (or_zero (entry_of f D bytes_tag))
     standing address_tag bytes_tag x e = record {
       address = or_zero (entry_of f D address_tag);
@@ -205,16 +202,16 @@ module _ (f : List ℕ) where
             (eq-or-lt_of_le l)
         go (inr l) = absurd (apart h.entry g.entry g.before_null h.tagged g.tagged l)
 
-    has-entry : (tag v : ℕ) → listed (elf_tags ++ memtag_tags) tag ≡ true → Has f D tag v → entry_of f D tag ≡ entry.Value v
+    has-entry : (tag v : ℕ) → listed (elf_tags ++ memtag_tags) tag ≡ true → Has f D tag v → entry_of f D tag ≡ Some v
     has-entry tag v k h =
-        entry_case f D tag (λ (e : Entry). e ≡ entry.Value v)
+        entry_case f D tag (λ (e : Option ℕ). e ≡ Some v)
         (λ none. absurd (none h.entry h.before_null h.tagged))
-        (λ w g. ap (λ (x : ℕ). entry.Value x) (one_value tag w v k g h))
+        (λ w g. ap (λ (x : ℕ). Some x) (one_value tag w v k g h))
 
-    symbol_stands : (n x : ℕ) → symbol_backing f H n M.symbols ≡ At x → SymbolAt f M n x
+    symbol_stands : (n x : ℕ) → symbol_backing f H n M.symbols ≡ Some x → SymbolAt f M n x
     unfolding symbol_backing
     symbol_stands n x =
-        entry_case f D symtab (λ (e : Entry). symbol_backing f H n e ≡ At x → SymbolAt f M n x)
+        entry_case f D symtab (λ (e : Option ℕ). symbol_backing f H n e ≡ Some x → SymbolAt f M n x)
         (λ _ e. absurd (let z : ◌≡◌ {A = ℕ} 0 1 = cc in omega arith))
         (λ address h e.
         let q = sym ((idle f H r.headers r.loads).symbol-backed n address) ∙ e in
@@ -224,7 +221,7 @@ module _ (f : List ℕ) where
           backed = (backing f r.headers r.loads (address + 24 * n) 24 x (omega arith)).0 q;
         })
 
-    stands_symbol : (n x : ℕ) → SymbolAt f M n x → symbol_backing f H n M.symbols ≡ At x
+    stands_symbol : (n x : ℕ) → SymbolAt f M n x → symbol_backing f H n M.symbols ≡ Some x
     stands_symbol n x s =
         rw (has-entry 6 s.table refl s.table_said, (idle f H r.headers r.loads).symbol-backed n s.table)
         ((backing f r.headers r.loads (s.table + 24 * n) 24 x (omega arith)).1 s.backed)
@@ -233,9 +230,9 @@ module _ (f : List ℕ) where
     unfolding named_target
     symbol_good n e = go (symbol_backing f H n M.symbols) refl e
       where
-        go : (p : Backing) → symbol_backing f H n M.symbols ≡ p → barred (named_target f p) ≡ false → GoodSymbol f M n
-        go Nowhere q e = true_false e
-        go (At x) q e =
+        go : (p : Option ℕ) → symbol_backing f H n M.symbols ≡ p → barred (named_target f p) ≡ false → GoodSymbol f M n
+        go None q e = true_false e
+        go (Some x) q e =
             let t = symbol-allowed f x e in
             record { at = x; stands = symbol_stands n x q; not_tls = t.0; not_ifunc = t.1; ordinary = t.2; defined_or_weak = t.3 }
 
@@ -378,7 +375,7 @@ module _ (f : List ℕ) where
     }
 
 -- the entry of a symbol that the rules find
-pub module_symbol : (f : List ℕ) (m : Module) → Reads f m → (n x : ℕ) → symbol_backing f m.headers n m.symbols ≡ At x → SymbolAt f m n x
+pub module_symbol : (f : List ℕ) (m : Module) → Reads f m → (n x : ℕ) → symbol_backing f m.headers n m.symbols ≡ Some x → SymbolAt f m n x
 module_symbol f m r = let q = r.found in rw q (symbol_stands f (subst (Reads f) q r))
 
 pub module_sentences : (f : List ℕ) (m : Module) → module_of f ≡ good m → ItemSentences f m

@@ -10,11 +10,10 @@ use native.Mathlib.Omega.{arith}
 use lib.ListN.{length, get_or, drop, drop_of_length-le}
 use lib.Dec.{eqb, leb}
 use borrow.Author.Tests.{eqb-true, eqb-false, eq-eqb, ne_eqb, leb-true, leb-false, le-leb, lt-leb, not-true, not-false}
-use Rattle.rules.specs.Outcome.{Outcome, good, bad, and_then, refusal, require}
+use Rattle.rules.specs.Outcome.{Outcome, good, bad, and_then, refusal, require, Refusal}
 use Rattle.rules.specs.Checks.{Check, runs, All, First}
 use Rattle.rules.specs.Limits.{address_limit, granule}
 use Rattle.rules.specs.Writer.{table_of, listed_checks, list_check, writer_checks, written_of, length_after, buffer_after}
-use Rattle.rules.specs.declared.Refusal.{Refusal}
 use Rattle.rules.proofs.OutcomeLaws.{good_bad, bad_good, true_false, and_left, and_right, and_then_good, require_held, require_true, require_false}
 use Rattle.rules.proofs.ChecksLaws.{first_runs, runs-first}
 use Rattle.rules.proofs.MemoryLaws.{put_front}

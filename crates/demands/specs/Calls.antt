@@ -1,12 +1,11 @@
 -- What a call does, and what the demands say of the bytes that it was lent and that it leaves.
 -- Assumes nothing.
 use Rattle.std.specs.Prelude.{ℕ, ◌≡◌, List, ◌⊎◌, length}
-use Rattle.rules.specs.Outcome.{Outcome, good, bad}
+use Rattle.rules.specs.Outcome.{Outcome, good, bad, Refusal}
 use Rattle.rules.specs.Checks.{All, First}
 use Rattle.rules.specs.Reader.{the_module, module_of}
 use Rattle.rules.specs.Examine.{facts_of}
 use Rattle.rules.specs.Load.{Loaded, load_checks, load_of, facts_after, memory_after, plane_after}
-use Rattle.rules.specs.declared.Refusal.{Refusal}
 use Rattle.rules.specs.declared.Module.{Module}
 use Rattle.rules.specs.declared.Facts.{Facts}
 use Rattle.demands.specs.Table.{load_numbers}

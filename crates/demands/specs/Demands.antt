@@ -1,7 +1,7 @@
 -- The three demands on the load, stated of the rules of document 01.
 -- Assumes nothing.
-use Rattle.std.specs.Prelude.{ℕ, ◌+◌, ◌*◌, ◌-◌, ◌/◌, ◌%◌, ◌^◌, ◌≤◌, ◌<◌, ◌≡◌, true, ◌&&◌, List, ◌⊎◌, length, get_or}
-use Rattle.rules.specs.Outcome.{Outcome, good, bad}
+use Rattle.std.specs.Prelude.{ℕ, ◌+◌, ◌*◌, ◌-◌, ◌/◌, ◌%◌, ◌^◌, ◌≤◌, ◌<◌, ◌≡◌, true, ◌&&◌, List, ◌⊎◌, length, get_or, Some}
+use Rattle.rules.specs.Outcome.{Outcome, good, bad, Refusal}
 use Rattle.rules.specs.Checks.{Check, All, First}
 use Rattle.rules.specs.Limits.{entry_limit, global_limit, granule}
 use Rattle.rules.specs.Bytes.{le}
@@ -14,9 +14,7 @@ use Rattle.rules.specs.Choices.{globals_in, global_at, end_of}
 use Rattle.rules.specs.Image.{image_of, loaded_at}
 use Rattle.rules.specs.Words.{Source, none, at, source_at, tag_of, word_at}
 use Rattle.rules.specs.Load.{Loaded, load_checks, load_of, loaded, memory_after, plane_after}
-use Rattle.rules.specs.declared.Refusal.{Refusal}
 use Rattle.rules.specs.declared.Headers.{Headers}
-use Rattle.rules.specs.declared.Entry.TheVariants.{Value}
 use Rattle.rules.specs.declared.Segment.{Segment}
 use Rattle.rules.specs.declared.Global.{Global}
 use Rattle.rules.specs.declared.Module.{Module}
@@ -163,7 +161,7 @@ pub record Leaves (f : List ℕ) (bias n p : ℕ) (choices : List ℕ) (m : Modu
 pub record Idle (f : List ℕ) (h : Headers) : Type 0 where
   pub backed : (a n i : ℕ) → i < h.count
       → backs_at f h a n i ≡ (is_load (header_at f h i) && covers (header_at f h i).vaddr (header_at f h i).filesz a n)
-  pub symbol-backed : (n table : ℕ) → symbol_backing f h n (Value table) ≡ backing_of f h (table + 24 * n) 24
+  pub symbol-backed : (n table : ℕ) → symbol_backing f h n (Some table) ≡ backing_of f h (table + 24 * n) 24
 
 -- ---- demand 3: against the plain loader
 

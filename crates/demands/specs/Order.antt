@@ -1,9 +1,8 @@
 -- The order of checking, by the numbers: each call's checks refuse one after the other as document 01 has them.
 -- Assumes nothing.
 use Rattle.std.specs.Prelude.{ℕ, ◌≡◌, Bool, true, ◌&&◌, List, [], ◌∷◌, ◌++◌, eqb}
-use Rattle.rules.specs.Outcome.{good, bad}
+use Rattle.rules.specs.Outcome.{good, bad, Refusal}
 use Rattle.rules.specs.Checks.{Check}
-use Rattle.rules.specs.declared.Refusal.{Refusal}
 use Rattle.demands.specs.Table.{walk_numbers, listed}
 
 -- a refusal with one of some numbers; with a number at a position

@@ -1,13 +1,12 @@
 -- The picker of tags: the rules of a list of choices, which lists are taken, what is picked, and that check 14 then passes.
 -- Assumes nothing.
 use Rattle.std.specs.Prelude.{ℕ, suc, ◌+◌, ◌*◌, ◌/◌, ◌%◌, ◌^◌, ◌≤◌, ◌<◌, ◌≡◌, true, List, [], ◌∷◌, length, get_or}
-use Rattle.rules.specs.Outcome.{Outcome, good, bad, refusal}
+use Rattle.rules.specs.Outcome.{Outcome, good, bad, refusal, Refusal}
 use Rattle.rules.specs.Limits.{address_limit, granule}
 use Rattle.rules.specs.Choices.{globals_in, choices_for, choices_check}
 use Rattle.rules.specs.Reader.{module_of}
 use Rattle.rules.specs.Load.{load_of}
 use Rattle.rules.specs.Picker.{picked_of, globals_after, choices_after}
-use Rattle.rules.specs.declared.Refusal.{Refusal}
 use Rattle.rules.specs.declared.Global.{Global}
 use Rattle.rules.specs.declared.Module.{Module}
 use Rattle.demands.specs.Table.{listed}

@@ -1,7 +1,7 @@
 -- The plain loader, a definition of its own: AAELF64's base operations, no tags. It is fed the file, the bias and the memory
 -- length. It shares with the load the reading of the file and the tests that both owe, and nothing that the load works out.
 -- Assumes nothing.
-use Rattle.std.specs.Prelude.{ℕ, zero, suc, ◌+◌, ◌*◌, ◌^◌, Bool, true, cond, not, ◌&&◌, List, [], ◌∷◌, ◌++◌, length, take, drop, replicate, ltb, eqb}
+use Rattle.std.specs.Prelude.{ℕ, zero, suc, ◌+◌, ◌*◌, ◌^◌, Bool, true, cond, not, ◌&&◌, List, [], ◌∷◌, ◌++◌, length, take, drop, replicate, ltb, eqb, Option, Some, None}
 use Rattle.std.specs.Prelude.{ℤ, pos, negsuc, ◌+ℤ◌, nat_abs}
 use Rattle.rules.specs.Outcome.{Outcome, passed, require}
 use Rattle.rules.specs.Checks.{Check, checked}
@@ -18,10 +18,6 @@ use Rattle.rules.specs.Relocations.{relative, place_at, kind_at, symbol_at, adde
 use Rattle.rules.specs.Lending.{memory_fits}
 use Rattle.rules.specs.declared.Headers.{Headers}
 use Rattle.rules.specs.declared.Segment.{Segment}
-use Rattle.rules.specs.declared.Backing.{Backing}
-use Rattle.rules.specs.declared.Backing.TheVariants.{At, Nowhere}
-use Rattle.rules.specs.declared.Entry.{Entry}
-use Rattle.rules.specs.declared.Entry.TheVariants.{Absent, Value}
 use Rattle.rules.specs.declared.Module.{Module}
 
 -- m with the bytes s from a position on, and no other byte changed
@@ -37,14 +33,14 @@ segments_of f h n zero = replicate n 0
 segments_of f h n (suc k) = store_load f (header_at f h k) (segments_of f h n k)
 
 -- where the 24 bytes of symbol n stand in the file, by the entry of tag 6
-abbrev pub symbol_entry : List ℕ → Headers → Entry → ℕ → Backing
-symbol_entry f h Absent n = Nowhere
-symbol_entry f h (Value table) n = backing_of f h (table + 24 * n) 24
+abbrev pub symbol_entry : List ℕ → Headers → Option ℕ → ℕ → Option ℕ
+symbol_entry f h None n = None
+symbol_entry f h (Some table) n = backing_of f h (table + 24 * n) 24
 
 -- S: bias + value; 0 where the symbol's section is 0
-abbrev pub symbol_address : List ℕ → ℕ → Backing → ℕ
-symbol_address f bias Nowhere = 0
-symbol_address f bias (At at) = cond (eqb (le 2 f (at + 6)) 0) 0 (bias + le 8 f (at + 8))
+abbrev pub symbol_address : List ℕ → ℕ → Option ℕ → ℕ
+symbol_address f bias None = 0
+symbol_address f bias (Some at) = cond (eqb (le 2 f (at + 6)) 0) 0 (bias + le 8 f (at + 8))
 
 -- the base operations: RELATIVE is Delta(S) + A, and Delta(S) is the bias; ABS64 and GLOB_DAT are S + A
 abbrev pub operation : ℕ → ℕ → ℕ → ℤ → ℤ

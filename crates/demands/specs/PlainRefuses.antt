@@ -1,12 +1,11 @@
 -- What the plain loader refuses, beside what the load refuses.
 -- Assumes nothing.
 use Rattle.std.specs.Prelude.{ℕ, ◌≡◌, true, List, [], ◌∷◌}
-use Rattle.rules.specs.Outcome.{Outcome, good, bad, refusal}
+use Rattle.rules.specs.Outcome.{Outcome, good, bad, refusal, Refusal}
 use Rattle.rules.specs.Headers.{the_headers}
 use Rattle.rules.specs.Dynamic.{base_tags}
 use Rattle.rules.specs.Reader.{the_dynamic}
 use Rattle.rules.specs.Load.{Loaded}
-use Rattle.rules.specs.declared.Refusal.{Refusal}
 use Rattle.demands.specs.Plain.{plain_module, plain_memory}
 use Rattle.demands.specs.Lending.{Fitting}
 use Rattle.demands.specs.Table.{walk_numbers, listed, EntryFaultBy}

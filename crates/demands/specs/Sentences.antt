@@ -1,6 +1,6 @@
 -- Each test of the rules that a check rests on holds exactly when a sentence of document 01 does: what is refused, and what is not.
 -- Assumes nothing.
-use Rattle.std.specs.Prelude.{ℕ, ◌+◌, ◌≤◌, ◌<◌, ◌≡◌, Bool, true, false, List, [], ◌∷◌, ◌↔◌, length, get_or}
+use Rattle.std.specs.Prelude.{ℕ, ◌+◌, ◌≤◌, ◌<◌, ◌≡◌, Bool, true, false, List, [], ◌∷◌, ◌↔◌, length, get_or, Some}
 use Rattle.rules.specs.Outcome.{good}
 use Rattle.rules.specs.Checks.{Check}
 use Rattle.rules.specs.Bytes.{le}
@@ -11,7 +11,6 @@ use Rattle.rules.specs.Tables.{table_backing, rela_address, rela_bytes, packed_a
 use Rattle.rules.specs.Relocations.{place_at, addend_at, live, position_at, target_at, barred, good_place, bad_relocation}
 use Rattle.rules.specs.Choices.{globals_in, global_at, end_of}
 use Rattle.rules.specs.Reader.{module_of}
-use Rattle.rules.specs.declared.Backing.TheVariants.{At}
 use Rattle.rules.specs.declared.Dynamic.{Dynamic}
 use Rattle.rules.specs.declared.Global.{Global}
 use Rattle.rules.specs.declared.Module.{Module}
@@ -70,8 +69,8 @@ module _ (f : List ℕ) where
 
   -- of one whose headers and PT_LOADs are good: what is backed, and the dynamic table
   pub record PartSentences : Type 0 where
-    pub backing : (a n x : ℕ) → 0 < n → (backing_of f (the_headers f) a n ≡ At x) ↔ Backed f a n x
-    pub table : (a n x : ℕ) → (table_backing f (the_headers f) a n ≡ At x) ↔ TableAt f a n x
+    pub backing : (a n x : ℕ) → 0 < n → (backing_of f (the_headers f) a n ≡ Some x) ↔ Backed f a n x
+    pub table : (a n x : ℕ) → (table_backing f (the_headers f) a n ≡ Some x) ↔ TableAt f a n x
     pub dynamic : (d : Dynamic) → (dynamic_of f (the_headers f) ≡ good d) ↔ FoundDynamic f d
 
   -- of the items of a module that is read

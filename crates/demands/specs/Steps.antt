@@ -1,11 +1,10 @@
 -- The descriptor reader alone: what one step does, whatever it is handed.
 -- Assumes nothing.
 use Rattle.std.specs.Prelude.{ℕ, ◌+◌, ◌*◌, ◌%◌, ◌≤◌, ◌<◌, ◌≡◌, List, length}
-use Rattle.rules.specs.Outcome.{good, bad, refusal}
+use Rattle.rules.specs.Outcome.{good, bad, refusal, Refusal}
 use Rattle.rules.specs.Limits.{address_limit, granule}
 use Rattle.rules.specs.Descriptors.{number, uleb_at, size_limit, Descriptor, finished, global, step_at}
 use Rattle.rules.specs.Choices.{end_of}
-use Rattle.rules.specs.declared.Refusal.{Refusal}
 use Rattle.rules.specs.declared.Global.{Global}
 use Rattle.rules.specs.declared.Cursor.{Cursor}
 

@@ -1,7 +1,7 @@
 -- Document 01's table of refusals, a row a number: which numbers a check gives, and at exactly which positions.
 -- Assumes nothing.
-use Rattle.std.specs.Prelude.{ℕ, zero, suc, ◌+◌, ◌*◌, ◌/◌, ◌%◌, ◌≤◌, ◌<◌, ◌≡◌, Bool, true, false, ◌||◌, List, [], ◌∷◌, ◌++◌, ◌⊎◌, length, eqb}
-use Rattle.rules.specs.Outcome.{Outcome, good, bad, refusal}
+use Rattle.std.specs.Prelude.{ℕ, zero, suc, ◌+◌, ◌*◌, ◌/◌, ◌%◌, ◌≤◌, ◌<◌, ◌≡◌, Bool, true, false, ◌||◌, List, [], ◌∷◌, ◌++◌, ◌⊎◌, length, eqb, Some, None}
+use Rattle.rules.specs.Outcome.{Outcome, good, bad, refusal, Refusal}
 use Rattle.rules.specs.Limits.{file_least, file_limit, entry_limit, global_limit, granule}
 use Rattle.rules.specs.Bytes.{le}
 use Rattle.rules.specs.Headers.{size_check, wrong_byte, identification_check, good_header, header_check}
@@ -15,11 +15,9 @@ use Rattle.rules.specs.Relocations.{items, position_at, target_at, barred, bad_r
 use Rattle.rules.specs.Lending.{lending_fits, lending_check}
 use Rattle.rules.specs.Addresses.{bad_address, addresses_check}
 use Rattle.rules.specs.Choices.{bad_choice, choices_for}
-use Rattle.rules.specs.declared.Refusal.{Refusal}
 use Rattle.rules.specs.declared.Headers.{Headers}
 use Rattle.rules.specs.declared.Dynamic.{Dynamic}
 use Rattle.rules.specs.declared.Known.{Known}
-use Rattle.rules.specs.declared.Backing.TheVariants.{At, Nowhere}
 use Rattle.rules.specs.declared.Relocations.{Relocations}
 use Rattle.rules.specs.declared.Descriptors.{Descriptors}
 use Rattle.rules.specs.declared.Global.{Global}
@@ -98,10 +96,10 @@ pub data EntryFaultBy (known : List Known) (f : List ℕ) (d : Dynamic) (i : ℕ
 -- the packed table is not backed; else its first word is a bitmap; else entries and packed places are too many with the places of a
 -- word, and were not before it
 pub data PackedFault (f : List ℕ) (h : Headers) (d : Dynamic) (entries i : ℕ) : Type 0 where
-  not_backed : table_backing f h (packed_address f d) (packed_bytes f d) ≡ Nowhere → i ≡ 0 → PackedFault f h d entries i
-  bitmap_first : (at : ℕ) → table_backing f h (packed_address f d) (packed_bytes f d) ≡ At at → 0 < packed_bytes f d / 8
+  not_backed : table_backing f h (packed_address f d) (packed_bytes f d) ≡ None → i ≡ 0 → PackedFault f h d entries i
+  bitmap_first : (at : ℕ) → table_backing f h (packed_address f d) (packed_bytes f d) ≡ Some at → 0 < packed_bytes f d / 8
       → le 8 f at % 2 ≡ 1 → i ≡ 0 → PackedFault f h d entries i
-  too_many : (at : ℕ) → table_backing f h (packed_address f d) (packed_bytes f d) ≡ At at → i < packed_bytes f d / 8
+  too_many : (at : ℕ) → table_backing f h (packed_address f d) (packed_bytes f d) ≡ Some at → i < packed_bytes f d / 8
       → le 8 f at % 2 ≡ 0 → entries + length (packed_before f at i) ≤ entry_limit
       → entry_limit < entries + length (packed_before f at (i + 1)) → PackedFault f h d entries i
 
@@ -151,9 +149,9 @@ pub record Table (f : List ℕ) : Type 0 where
   pub row_5 : (h : Headers) → Row (dynamic_of f h) (5 ∷ []) 5 (DynamicFault f h)
   pub row_6 : (d : Dynamic) → Row (entries_check known_tags f d) (6 ∷ []) 6 (EntryFault f d)
   pub row_7 : (h : Headers) (d : Dynamic) → Row (relocations_of f h d) (7 ∷ []) 7 (λ i. (i ≡ 0)
-      × ((table_backing f h (rela_address f d) (rela_bytes f d) ≡ Nowhere) ⊎ (entry_limit < rela_bytes f d / 24)))
+      × ((table_backing f h (rela_address f d) (rela_bytes f d) ≡ None) ⊎ (entry_limit < rela_bytes f d / 24)))
   pub row_7_descriptors : (h : Headers) (d : Dynamic) → Row (descriptors_of f h d) (7 ∷ []) 7 (λ i. (i ≡ 1)
-      × (table_backing f h (descriptor_address f d) (descriptor_bytes f d) ≡ Nowhere))
+      × (table_backing f h (descriptor_address f d) (descriptor_bytes f d) ≡ None))
   pub row_15 : (h : Headers) (d : Dynamic) (r : Relocations) → r.entries ≤ entry_limit
       → Row (packed_of f h d r) (15 ∷ []) 15 (PackedFault f h d r.entries)
   pub row_8 : (h : Headers) (t : Descriptors) → Row (globals_of f h t) walk_numbers 8 (Unread f h (descriptor_table f t) 8)

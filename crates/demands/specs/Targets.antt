@@ -1,12 +1,10 @@
 -- Document 01's sentences on what is relocated: where a module's tables stand, kinds, symbols and places, over the file's bytes.
 -- Assumes nothing.
-use Rattle.std.specs.Prelude.{ℕ, ◌+◌, ◌*◌, ◌<◌, ◌≡◌, List, ◌⊎◌}
+use Rattle.std.specs.Prelude.{ℕ, ◌+◌, ◌*◌, ◌<◌, ◌≡◌, List, ◌⊎◌, Option, Some, None}
 use Rattle.std.specs.Int.{◌∣◌}
 use Rattle.rules.specs.Bytes.{le}
 use Rattle.rules.specs.Relocations.{place_at}
 use Rattle.rules.specs.declared.Dynamic.{Dynamic}
-use Rattle.rules.specs.declared.Entry.{Entry}
-use Rattle.rules.specs.declared.Entry.TheVariants.{Absent, Value}
 use Rattle.rules.specs.declared.Module.{Module}
 use Rattle.demands.specs.Fields.{rela_kind, rela_symbol, symbol_type, symbol_binding, symbol_section}
 use Rattle.demands.specs.Parts.{Backed, TableAt, InMemory, Writable}
@@ -22,9 +20,9 @@ pub record TableBy (f : List ℕ) (d : Dynamic) (address_tag bytes_tag x n : ℕ
   pub stands : TableAt f address n x
 
 -- the symbol table's address
-pub data SymbolTable (f : List ℕ) (d : Dynamic) (symbols : Entry) : Type 0 where
-  no_symbols : Lacks f d 6 → symbols ≡ Absent → SymbolTable f d symbols
-  symbols_at : (address : ℕ) → Has f d 6 address → symbols ≡ Value address → SymbolTable f d symbols
+pub data SymbolTable (f : List ℕ) (d : Dynamic) (symbols : Option ℕ) : Type 0 where
+  no_symbols : Lacks f d 6 → symbols ≡ None → SymbolTable f d symbols
+  symbols_at : (address : ℕ) → Has f d 6 address → symbols ≡ Some address → SymbolTable f d symbols
 
 -- a module is read from the file so
 pub record ReadFrom (f : List ℕ) (m : Module) : Type 0 where

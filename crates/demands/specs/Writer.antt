@@ -1,13 +1,12 @@
 -- The writer of descriptor tables: what it takes and refuses, and that reading and writing undo each other.
 -- Assumes nothing.
 use Rattle.std.specs.Prelude.{ℕ, zero, suc, ◌+◌, ◌*◌, ◌%◌, ◌≤◌, ◌<◌, ◌≡◌, true, List, [], ◌∷◌, ◌++◌, map, length, get_or, drop}
-use Rattle.rules.specs.Outcome.{Outcome, good, bad, refusal}
+use Rattle.rules.specs.Outcome.{Outcome, good, bad, refusal, Refusal}
 use Rattle.rules.specs.Limits.{address_limit, granule}
 use Rattle.rules.specs.Descriptors.{finished, global, step_at, table_start, descriptor_table}
 use Rattle.rules.specs.Choices.{globals_in}
 use Rattle.rules.specs.Reader.{module_of}
 use Rattle.rules.specs.Writer.{table_of, written_of, length_after, buffer_after}
-use Rattle.rules.specs.declared.Refusal.{Refusal}
 use Rattle.rules.specs.declared.Global.{Global}
 use Rattle.rules.specs.declared.Cursor.{Cursor}
 use Rattle.rules.specs.declared.Module.{Module}

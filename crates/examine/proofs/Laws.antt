@@ -3,10 +3,9 @@
 use Prim.Native.Nat.{ℕ}
 use mathlib.Core.Path.{◌≡◌, ◌∙◌}
 use mathlib.Core.List.{List}
-use Rattle.rules.specs.Outcome.{good, bad}
+use Rattle.rules.specs.Outcome.{good, bad, Refusal}
 use Rattle.rules.specs.Reader.{module_of}
 use Rattle.rules.specs.Examine.{facts_of, examined_of}
-use Rattle.rules.specs.declared.Refusal.{Refusal}
 use Rattle.rules.specs.declared.Module.{Module}
 use Rattle.rules.specs.declared.Walked.{Walked}
 use Rattle.laws.proofs.Stages.{examined_stages}

@@ -1,11 +1,10 @@
 -- What the reader and examine answer to the module and to changed copies of it. No case needs the rules to be read.
 -- Assumes nothing.
-use Rattle.std.specs.Prelude.{ℕ, ◌+◌, ◌≡◌, List, [], ◌∷◌, map, take}
+use Rattle.std.specs.Prelude.{ℕ, ◌+◌, ◌≡◌, List, [], ◌∷◌, map, take, Some}
 use Rattle.rules.specs.Outcome.{good, refuse}
 use Rattle.rules.specs.Reader.{module_of}
 use Rattle.rules.specs.Examine.{examined_of}
 use Rattle.rules.specs.declared.Module.{Module}
-use Rattle.rules.specs.declared.Entry.TheVariants.{Value}
 use Rattle.rules.specs.declared.Facts.{Facts}
 use Rattle.rules.specs.declared.Mode.TheVariants as mode
 use Rattle.rules.specs.declared.Switch.TheVariants as switch
@@ -169,7 +168,7 @@ abbrev sample_module : Module
 sample_module = record {
   headers = record { table = 64; count = 3 };
   dynamic = record { at = 232; entries = 7 };
-  symbols = Value 408;
+  symbols = Some 408;
   relocations = record { at = 480; entries = 4 };
   packed = record { at = 0; words = 0; places = 0 };
   descriptors = record { at = 576; bytes = 4 };

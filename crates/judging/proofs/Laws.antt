@@ -1,5 +1,6 @@
 -- One item: what its tests come to.
 -- Assumes nothing.
+use Rattle.std.specs.Prelude.{Some, None}
 use Prim.Native.Nat.{ℕ, ◌%◌, ◌≤◌, ◌<◌}
 use mathlib.Core.Path.{◌≡◌, refl, sym, ◌∙◌}
 use mathlib.Core.Bool.{Bool, true, false, cond}
@@ -15,7 +16,6 @@ use Rattle.rules.specs.Addresses.{address_of, out_of_range, natural, address_at,
 use Rattle.rules.specs.Answers.{in_range}
 use Rattle.rules.specs.Relocations.{place_at, kind_at, symbol_at, live, target, target_at, barred, place_fits}
 use Rattle.rules.specs.Image.{loaded_at}
-use Rattle.rules.specs.declared.Address.TheVariants.{At, Outside}
 use Rattle.rules.specs.declared.Headers.{Headers}
 use Rattle.rules.specs.declared.Module.{Module}
 use Rattle.rules.specs.declared.Target.{Target}
@@ -29,17 +29,17 @@ use Rattle.segments.proofs.SpanLaws.{sound_none}
 use Rattle.judging.specs.Judges.{item_fault, Fitted, Judges}
 
 -- an address out of range, as the answer tells it
-pub outside_out : (z : ℤ) → in_range z ≡ Outside → out_of_range z ≡ true
+pub outside_out : (z : ℤ) → in_range z ≡ None → out_of_range z ≡ true
 outside_out z e = go (out_of_range z) e
   where
-    go : (b : Bool) → cond b Outside (At (natural z)) ≡ Outside → b ≡ true
+    go : (b : Bool) → cond b None (Some (natural z)) ≡ None → b ≡ true
     go true q = refl
     go false q = search never
 
-pub at_in : (z : ℤ) (a : ℕ) → in_range z ≡ At a → out_of_range z ≡ false
+pub at_in : (z : ℤ) (a : ℕ) → in_range z ≡ Some a → out_of_range z ≡ false
 at_in z a e = go (out_of_range z) e
   where
-    go : (b : Bool) → cond b Outside (At (natural z)) ≡ At a → b ≡ false
+    go : (b : Bool) → cond b None (Some (natural z)) ≡ Some a → b ≡ false
     go true q = search never
     go false q = refl
 

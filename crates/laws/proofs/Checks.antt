@@ -8,8 +8,7 @@ use native.Mathlib.Nat.{suc-add}
 use native.Mathlib.Omega.{arith}
 use lib.Dec.{leb, eqb}
 use borrow.Author.Tests.{leb-true, leb-false, ltb-true, ltb-false, le-ltb, eqb-true, eq-eqb}
-use Rattle.rules.specs.Outcome.{Outcome, good, bad, and_then, require, refusal}
-use Rattle.rules.specs.declared.Refusal.{Refusal}
+use Rattle.rules.specs.Outcome.{Outcome, good, bad, and_then, require, refusal, Refusal}
 use Rattle.rules.specs.First.{first, some_below, faults_at, faultless}
 use Rattle.rules.proofs.FirstLaws.{first-le, first_all, first_end, first_true}
 use Rattle.rules.proofs.OutcomeLaws.{never, cond_held}

@@ -1,5 +1,6 @@
 -- After check 4 one PT_LOAD at most backs a byte, so bytes of one file part are loaded as they stand in the file.
 -- Assumes nothing.
+use Rattle.std.specs.Prelude.{Some, None}
 use Prim.Native.Nat.{ℕ, zero, suc, ◌+◌, ◌-◌, ◌≤◌, ◌<◌}
 use mathlib.Core.Path.{◌≡◌, refl, sym, ◌∙◌}
 use mathlib.Core.Bool.{Bool, true, false, cond}
@@ -18,7 +19,6 @@ use Rattle.rules.specs.Segments.{header_at, is_load, loads_check, covers, backs,
 use Rattle.rules.specs.Image.{byte_of, loaded_in, loaded_at}
 use Rattle.rules.specs.declared.Headers.{Headers}
 use Rattle.rules.specs.declared.Segment.{Segment}
-use Rattle.rules.specs.declared.Backing.TheVariants.{At, Nowhere}
 use Rattle.rules.proofs.FirstLaws.{first_true, first_below}
 use Rattle.rules.proofs.OutcomeLaws.{true_false, and_left, and_right}
 use Rattle.laws.proofs.Checks.{le_or_lt}
@@ -96,14 +96,14 @@ module _ (f : List ℕ) (h : Headers) (passed : loads_check f h ≡ good tt) whe
       rw (here, rest, e)
 
   -- eight bytes that are backed are loaded from where they are backed
-  pub loaded-backed : (a at : ℕ) → backing_of f h a 8 ≡ At at → loaded_at f h a ≡ le 8 f at
+  pub loaded-backed : (a at : ℕ) → backing_of f h a 8 ≡ Some at → loaded_at f h a ≡ le 8 f at
   unfolding backing_of backer backs_at
   loaded-backed a at e = go (ltb i h.count) refl e
     where
       i : ℕ
       i = first (backs_at f h a 8) 0 h.count
 
-      go : (b : Bool) → ltb i h.count ≡ b → cond b (backing_in (header_at f h i) a) Nowhere ≡ At at → loaded_at f h a ≡ le 8 f at
+      go : (b : Bool) → ltb i h.count ≡ b → cond b (backing_in (header_at f h i) a) None ≡ Some at → loaded_at f h a ≡ le 8 f at
       go true q x =
           let s = header_at f h i in
           let l = ltb-true i h.count q in

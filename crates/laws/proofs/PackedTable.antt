@@ -1,5 +1,6 @@
 -- What check 15 says of a packed table: with an even first word only the count is left to fail.
 -- Assumes nothing.
+use Rattle.std.specs.Prelude.{Option, Some, None}
 use Prim.Native.Nat.{ℕ, zero, suc, ◌+◌, ◌*◌, ◌/◌, ◌%◌, ◌≤◌, ◌<◌}
 use mathlib.Core.Path.{◌≡◌, refl, sym, ap, ◌∙◌, subst}
 use mathlib.Core.Bool.{Bool, true, false, cond, not, ◌&&◌, ◌||◌}
@@ -11,16 +12,13 @@ use native.Mathlib.Omega.{arith}
 use lib.ListN.{length}
 use lib.Dec.{ltb, eqb}
 use borrow.Author.Tests.{eqb-true, eqb-false, eq-eqb, ne_eqb, ltb-true, ltb-false, leb-true}
-use Rattle.rules.specs.Outcome.{good, bad, refusal}
+use Rattle.rules.specs.Outcome.{good, bad, refusal, Refusal}
 use Rattle.rules.specs.Limits.{file_limit, entry_limit}
 use Rattle.rules.specs.First.{first, some_below}
 use Rattle.rules.specs.Segments.{header_at, is_load, covers, backs, backs_at, backer, backing_in, backing_of}
 use Rattle.rules.specs.Tables.{table_backing, backed, packed_address, packed_bytes}
 use Rattle.rules.specs.Packed.{Named, packed_word, packed_before, is_place_at, bad_word, words_check, packed_at, packed_of}
-use Rattle.rules.specs.declared.Refusal.{Refusal}
 use Rattle.rules.specs.declared.Headers.{Headers}
-use Rattle.rules.specs.declared.Backing.{Backing}
-use Rattle.rules.specs.declared.Backing.TheVariants.{At, Nowhere}
 use Rattle.rules.specs.declared.Dynamic.{Dynamic}
 use Rattle.rules.specs.declared.Relocations.{Relocations}
 use Rattle.rules.specs.declared.Packed.{Packed}
@@ -32,24 +30,24 @@ use Rattle.laws.proofs.Packed.{before_none}
 
 -- ---- where a table is backed
 
-pub backed_bad : {r : Refusal} (number position : ℕ) (p : Backing) → backed number position p ≡ bad r
-    → (p ≡ Nowhere) × (r ≡ refusal number position)
-backed_bad number position Nowhere e = (refl, cc)
-backed_bad number position (At at) e = search never
+pub backed_bad : {r : Refusal} (number position : ℕ) (p : Option ℕ) → backed number position p ≡ bad r
+    → (p ≡ None) × (r ≡ refusal number position)
+backed_bad number position None e = (refl, cc)
+backed_bad number position (Some at) e = search never
 
-pub backed_good : (number position at : ℕ) (p : Backing) → backed number position p ≡ good at → p ≡ At at
-backed_good number position at Nowhere e = search never
-backed_good number position at (At x) e = let q : x ≡ at = cc in rw q
+pub backed_good : (number position at : ℕ) (p : Option ℕ) → backed number position p ≡ good at → p ≡ Some at
+backed_good number position at None e = search never
+backed_good number position at (Some x) e = let q : x ≡ at = cc in rw q
 
 -- a table that is backed is no longer than a file may be
-pub table_short : (f : List ℕ) (h : Headers) (a n at : ℕ) → table_backing f h a n ≡ At at → n ≤ file_limit
+pub table_short : (f : List ℕ) (h : Headers) (a n at : ℕ) → table_backing f h a n ≡ Some at → n ≤ file_limit
 unfolding table_backing backing_of backer backs_at backs
 table_short f h a n at e = go (eqb n 0) refl e
   where
     i : ℕ
     i = first (backs_at f h a n) 0 h.count
 
-    inside : (b : Bool) → ltb i h.count ≡ b → cond b (backing_in (header_at f h i) a) Nowhere ≡ At at → n ≤ file_limit
+    inside : (b : Bool) → ltb i h.count ≡ b → cond b (backing_in (header_at f h i) a) None ≡ Some at → n ≤ file_limit
     inside true q x =
         let s = header_at f h i in
         let t = first_true (backs_at f h a n) h.count 0 (let l = ltb-true i h.count q in omega arith) in
@@ -59,7 +57,7 @@ table_short f h a n at e = go (eqb n 0) refl e
         omega arith
     inside false q x = absurd (let z : ◌≡◌ {A = ℕ} 0 1 = cc in omega arith)
 
-    go : (b : Bool) → eqb n 0 ≡ b → cond b (At 0) (backing_of f h a n) ≡ At at → n ≤ file_limit
+    go : (b : Bool) → eqb n 0 ≡ b → cond b (Some 0) (backing_of f h a n) ≡ Some at → n ≤ file_limit
     go true q x = let z = eqb-true n 0 q in omega arith
     go false q x = inside (ltb i h.count) refl x
 

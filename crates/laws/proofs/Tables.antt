@@ -1,5 +1,6 @@
 -- A table that is backed is inside the file.
 -- Assumes nothing.
+use Rattle.std.specs.Prelude.{Some, None}
 use Prim.Native.Nat.{ℕ, ◌+◌, ◌*◌, ◌-◌, ◌/◌, ◌≤◌}
 use mathlib.Core.Path.{◌≡◌, refl}
 use mathlib.Core.Bool.{Bool, true, false, cond}
@@ -17,7 +18,6 @@ use Rattle.rules.specs.Tables.{table_backing, backed, rela_address, rela_bytes, 
 use Rattle.rules.specs.declared.Headers.{Headers}
 use Rattle.rules.specs.declared.Dynamic.{Dynamic}
 use Rattle.rules.specs.declared.Relocations.{Relocations}
-use Rattle.rules.specs.declared.Backing.TheVariants.{At, Nowhere}
 use Rattle.rules.proofs.FirstLaws.{first_true}
 use Rattle.rules.proofs.OutcomeLaws.{and_left, and_right, and_then_good}
 use Rattle.laws.proofs.Checks.{good_same}
@@ -26,14 +26,14 @@ use Rattle.laws.proofs.PackedTable.{backed_good}
 
 module _ (f : List ℕ) (h : Headers) (passed : loads_check f h ≡ good tt) where
   -- bytes that are backed are inside the file
-  backing_inside : (a n at : ℕ) → backing_of f h a n ≡ At at → at + n ≤ length f
+  backing_inside : (a n at : ℕ) → backing_of f h a n ≡ Some at → at + n ≤ length f
   unfolding backing_of backer backs_at backs
   backing_inside a n at e = go (ltb i h.count) refl e
     where
       i : ℕ
       i = first (backs_at f h a n) 0 h.count
 
-      go : (b : Bool) → ltb i h.count ≡ b → cond b (backing_in (header_at f h i) a) Nowhere ≡ At at → at + n ≤ length f
+      go : (b : Bool) → ltb i h.count ≡ b → cond b (backing_in (header_at f h i) a) None ≡ Some at → at + n ≤ length f
       go true q x =
           let s = header_at f h i in
           let l = ltb-true i h.count q in
@@ -44,11 +44,11 @@ module _ (f : List ℕ) (h : Headers) (passed : loads_check f h ≡ good tt) whe
           omega arith
       go false q x = absurd (let z : ◌≡◌ {A = ℕ} 0 1 = cc in omega arith)
 
-  table_inside : (a n at : ℕ) → table_backing f h a n ≡ At at → at + n ≤ length f
+  table_inside : (a n at : ℕ) → table_backing f h a n ≡ Some at → at + n ≤ length f
   unfolding table_backing
   table_inside a n at e = go (eqb n 0) refl e
     where
-      go : (b : Bool) → eqb n 0 ≡ b → cond b (At 0) (backing_of f h a n) ≡ At at → at + n ≤ length f
+      go : (b : Bool) → eqb n 0 ≡ b → cond b (Some 0) (backing_of f h a n) ≡ Some at → at + n ≤ length f
       go true q x = let z = eqb-true n 0 q in let y : 0 ≡ at = cc in omega arith
       go false q x = backing_inside a n at x
 

@@ -5,7 +5,7 @@ use mathlib.Core.Path.{◌≡◌, sym, ap, ◌∙◌}
 use mathlib.Core.List.{List}
 use native.Mathlib.Omega.{arith}
 use lib.ListN.{length}
-use Rattle.rules.specs.Outcome.{good, bad}
+use Rattle.rules.specs.Outcome.{good, bad, Refusal}
 use Rattle.rules.specs.Checks.{runs, checked}
 use Rattle.rules.specs.Reader.{module_of}
 use Rattle.rules.specs.Bytes.{le}
@@ -15,7 +15,6 @@ use Rattle.rules.specs.Choices.{globals_in}
 use Rattle.rules.specs.Image.{image_of, loaded_at}
 use Rattle.rules.specs.Words.{word_at}
 use Rattle.rules.specs.Load.{call_checks, loaded_memory, loaded_plane}
-use Rattle.rules.specs.declared.Refusal.{Refusal}
 use Rattle.rules.specs.declared.Module.{Module}
 use Rattle.rules.specs.declared.Facts.{Facts}
 use Rattle.rules.proofs.OutcomeLaws.{and_then_good}

@@ -7,7 +7,7 @@ use mathlib.Core.List.{List, [], ◌∷◌, ◌++◌}
 use lib.ListN.{length}
 use mathlib.Core.Logic.{◌⊎◌, inl, inr}
 use native.Mathlib.Omega.{arith}
-use Rattle.rules.specs.Outcome.{Outcome, good, bad, refusal, passed, mapped}
+use Rattle.rules.specs.Outcome.{Outcome, good, bad, refusal, passed, mapped, Refusal}
 use Rattle.rules.specs.Bytes.{le}
 use Rattle.rules.specs.Checks.{Check, runs}
 use Rattle.rules.specs.Headers.{header_check, the_headers}
@@ -21,7 +21,6 @@ use Rattle.rules.specs.Choices.{choices_check}
 use Rattle.rules.specs.Image.{image_of}
 use Rattle.rules.specs.Words.{at}
 use Rattle.rules.specs.Load.{Loaded, loaded, load_of, facts_after}
-use Rattle.rules.specs.declared.Refusal.{Refusal}
 use Rattle.rules.specs.declared.Mode.TheVariants as mode
 use Rattle.rules.specs.declared.Facts.{Facts}
 use Rattle.rules.proofs.OutcomeLaws.{good_bad, bad_good, false_true, and_then_good}

@@ -7,9 +7,8 @@ use mathlib.Core.List.{List, [], ◌∷◌}
 use native.Mathlib.Omega.{arith}
 use lib.Dec.{ltb}
 use borrow.Author.Tests.{ltb-true}
-use Rattle.rules.specs.Outcome.{good, bad}
+use Rattle.rules.specs.Outcome.{good, bad, Refusal}
 use Rattle.rules.specs.Checks.{Check}
-use Rattle.rules.specs.declared.Refusal.{Refusal}
 use Rattle.rules.proofs.OutcomeLaws.{true_false, good_bad, and_left, and_right}
 use Rattle.demands.specs.Writer.{Bytes}
 use Rattle.demands.specs.Sentences.{Means, Clears, Admits}

@@ -1,6 +1,6 @@
 -- Wrong definitions, each a rule of the rules or of the plain loader with one mistake in it. Nothing else cites them.
 -- Assumes nothing.
-use Rattle.std.specs.Prelude.{ℕ, ◌+◌, ◌*◌, ◌/◌, ◌%◌, ◌^◌, Bool, cond, not, ◌&&◌, ◌||◌, List, [], ◌∷◌, ◌++◌, length, ltb, leb, eqb, pos, ◌+ℤ◌}
+use Rattle.std.specs.Prelude.{ℕ, ◌+◌, ◌*◌, ◌/◌, ◌%◌, ◌^◌, Bool, cond, not, ◌&&◌, ◌||◌, List, [], ◌∷◌, ◌++◌, length, ltb, leb, eqb, pos, ◌+ℤ◌, Option, Some, None}
 use Rattle.rules.specs.Outcome.{Outcome, good, refuse, and_then, mapped, passed, require}
 use Rattle.rules.specs.Checks.{Check, checked}
 use Rattle.rules.specs.Bytes.{le}
@@ -23,10 +23,6 @@ use Rattle.rules.specs.Image.{loaded_at}
 use Rattle.rules.specs.Words.{Source, none, at}
 use Rattle.rules.specs.declared.Headers.{Headers}
 use Rattle.rules.specs.declared.Dynamic.{Dynamic}
-use Rattle.rules.specs.declared.Backing.{Backing}
-use Rattle.rules.specs.declared.Backing.TheVariants.{At, Nowhere}
-use Rattle.rules.specs.declared.Entry.{Entry}
-use Rattle.rules.specs.declared.Entry.TheVariants as entry
 use Rattle.rules.specs.declared.Mode.{Mode}
 use Rattle.rules.specs.declared.Mode.TheVariants as mode
 use Rattle.rules.specs.declared.Facts.{Facts}
@@ -59,9 +55,9 @@ unequal_repeat f d i =
     || some_below (λ j. eqb (tag_at f d j) (tag_at f d i) && not (eqb (value_at f d j) (value_at f d i))) i)
 
 -- the facts, where a mode of 0 is told as absent
-abbrev pub mode_above : Entry → Mode
-mode_above entry.Absent = mode.Absent
-mode_above (entry.Value v) = cond (eqb v 0) mode.Absent mode.Asynchronous
+abbrev pub mode_above : Option ℕ → Mode
+mode_above None = mode.Absent
+mode_above (Some v) = cond (eqb v 0) mode.Absent mode.Asynchronous
 
 abbrev pub examined_above : List ℕ → Outcome Facts
 examined_above f =
@@ -87,9 +83,9 @@ reserved_only s =
     (cond (leb 0xff00 s.section && leb s.section 0xff1f) Barred
     (cond (eqb s.section 0) (cond (eqb (s.info / 16) 2) Undefined Barred) (Defined s.value)))
 
-abbrev pub reserved_named : List ℕ → Backing → Target
-reserved_named f Nowhere = Barred
-reserved_named f (At x) = reserved_only (symbol_of f x)
+abbrev pub reserved_named : List ℕ → Option ℕ → Target
+reserved_named f None = Barred
+reserved_named f (Some x) = reserved_only (symbol_of f x)
 
 abbrev pub reserved_target : List ℕ → Module → ℕ → Target
 reserved_target f m k =

@@ -1,12 +1,11 @@
 -- The load as the C host calls it, and what the numbers that calls answer tell: of the bytes, and of the facts.
 -- Assumes nothing.
 use Rattle.std.specs.Prelude.{ℕ, ◌/◌, ◌%◌, ◌^◌, ◌≤◌, ◌<◌, ◌≡◌, List, ◌++◌, length, drop}
-use Rattle.rules.specs.Outcome.{Outcome, good, bad, refusal}
+use Rattle.rules.specs.Outcome.{Outcome, good, bad, refusal, Refusal}
 use Rattle.rules.specs.Bytes.{le}
 use Rattle.rules.specs.Descriptors.{finished, global, step_at}
 use Rattle.rules.specs.Examine.{examined_of}
 use Rattle.rules.specs.Writer.{table_of}
-use Rattle.rules.specs.declared.Refusal.{Refusal}
 use Rattle.rules.specs.declared.Global.{Global}
 use Rattle.rules.specs.declared.Cursor.{Cursor}
 use Rattle.rules.specs.declared.Facts.{Facts}

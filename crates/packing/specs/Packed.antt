@@ -1,10 +1,9 @@
 -- What the exported calls answer: one 64-bit number.
 -- Assumes nothing.
 use Rattle.std.specs.Prelude.{ℕ, ◌+◌, ◌*◌, ◌^◌, List}
-use Rattle.rules.specs.Outcome.{Outcome, good, bad}
+use Rattle.rules.specs.Outcome.{Outcome, good, bad, Refusal}
 use Rattle.rules.specs.Descriptors.{Read, finished, global}
 use Rattle.rules.specs.Memory.{put_word}
-use Rattle.rules.specs.declared.Refusal.{Refusal}
 use Rattle.rules.specs.declared.Facts.{Facts}
 use Rattle.rules.specs.declared.Mode.{Mode}
 use Rattle.rules.specs.declared.Mode.TheVariants as mode

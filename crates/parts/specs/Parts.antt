@@ -1,10 +1,9 @@
 -- The file part of a PT_LOAD that was found, and is asked again.
 -- Assumes nothing.
-use Rattle.std.specs.Prelude.{ℕ, ◌+◌, ◌-◌, ◌≤◌, ◌<◌, ◌≡◌, Bool, true, List, length}
+use Rattle.std.specs.Prelude.{ℕ, ◌+◌, ◌-◌, ◌≤◌, ◌<◌, ◌≡◌, Bool, true, List, length, Some}
 use Rattle.rules.specs.Limits.{file_limit, memory_limit}
 use Rattle.rules.specs.Segments.{covers, backing_of, in_memory}
 use Rattle.rules.specs.declared.Headers.{Headers}
-use Rattle.rules.specs.declared.Backing.TheVariants.{At}
 use Rattle.parts.specs.declared.Part.{Part}
 
 -- it is inside the file and its limit, and below memory's limit; all bytes that it covers are inside the memory part of a PT_LOAD, a writable one where
@@ -14,4 +13,4 @@ pub record Parted (f : List ℕ) (h : Headers) (write : Bool) (s : Part) : Type 
   pub short : s.at + s.size ≤ file_limit
   pub low : s.start + s.size ≤ memory_limit
   pub held : (x k : ℕ) → 0 < k → covers s.start s.size x k ≡ true → in_memory f h write x k ≡ true
-  pub backed : (x k : ℕ) → 0 < k → covers s.start s.size x k ≡ true → backing_of f h x k ≡ At (s.at + (x - s.start))
+  pub backed : (x k : ℕ) → 0 < k → covers s.start s.size x k ≡ true → backing_of f h x k ≡ Some (s.at + (x - s.start))

@@ -7,11 +7,10 @@ use mathlib.Core.List.{List}
 use lib.ListN.{length}
 use lib.Dec.{eqb, leb}
 use borrow.Author.Tests.{eq-eqb, ne_eqb, eqb-true, leb-true, not-true, not-false}
-use Rattle.rules.specs.Outcome.{Outcome, good, bad, refuse}
+use Rattle.rules.specs.Outcome.{Outcome, good, bad, refuse, Refusal}
 use Rattle.rules.specs.Checks.{Check}
 use Rattle.rules.specs.Writer.{list_check}
 use Rattle.rules.specs.Picker.{picks_of, tags_needed, tags_allowed, picker_checks, picked_of}
-use Rattle.rules.specs.declared.Refusal.{Refusal}
 use Rattle.rules.proofs.OutcomeLaws.{and_left, and_right, require_held}
 use Rattle.rules.proofs.ChecksLaws.{runs_all}
 use Rattle.rules.proofs.BoolLaws.{and_false}

@@ -9,14 +9,13 @@ use native.Mathlib.Nat.{sub-zero, eq-or-lt_of_le}
 use native.Mathlib.Omega.{arith}
 use lib.Dec.{ltb, eqb}
 use borrow.Author.Tests.{eq-eqb, ne_eqb, eqb-true}
-use Rattle.rules.specs.Outcome.{good, bad, refuse}
+use Rattle.rules.specs.Outcome.{good, bad, refuse, Refusal}
 use Rattle.rules.specs.First.{first, some_below}
 use Rattle.rules.specs.Addresses.{bad_address}
 use Rattle.rules.specs.Relocations.{place_at, live, items, position_at, target_at, barred}
 use Rattle.rules.specs.Relocations.{place_fits, has_place, taken, good_place, bad_relocation, first_bad, relocations_check, words_of}
 use Rattle.rules.specs.declared.Module.{Module}
 use Rattle.rules.specs.declared.Walked.{Walked}
-use Rattle.rules.specs.declared.Refusal.{Refusal}
 use Rattle.rules.proofs.FirstLaws.{first-le, first_true, first_below, first_same, first_or}
 use Rattle.rules.proofs.OutcomeLaws.{never, and_left, and_then_good}
 use Rattle.laws.proofs.Checks.{and_then_bad}

@@ -11,6 +11,10 @@ use native.Mathlib.Omega.{arith}
 use lib.Dec.{leb}
 use borrow.Author.Tests.{leb-true, leb-false}
 use lib.ListN.{length, get_or, get_or-eq_default}
+use Rattle.std.specs.Prelude.{Some, None}
+use Rattle.std.specs.Slice.{IsItemAt}
+use denote.Ref.{Bor}
+use Rattle.std.proofs.lemmas.List.{get_or_read}
 use Rattle.rules.specs.Bytes.{le}
 
 -- m + n bytes are the first m, and n more above them
@@ -66,3 +70,10 @@ byte_room k v b l h c =
     let p : 256 ^ suc k ≡ 256 ^ k * 256 = pow-suc 256 k in
     let small : 256 ^ k ≤ 256 ^ 6 = pow-le-pow_right {n = 256} (omega arith) l in
     (omega arith, omega arith)
+
+-- what `get` says of a byte that is there, and of one past the end
+pub got : (s : List ℕ) (at : ℕ) (b : Bor ℕ) → IsItemAt s at (Some b) → (at < length s) × (b.now ≡ get_or s at 0)
+got s at b h = (h.3.0, get_or_read s at _ h.3.0 h.1 0)
+
+pub got_none : (s : List ℕ) (at : ℕ) → IsItemAt {X = ℕ} s at None → length s ≤ at
+got_none s at h = h.3

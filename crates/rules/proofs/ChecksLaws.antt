@@ -3,9 +3,8 @@
 use mathlib.Core.Path.{◌≡◌, refl}
 use mathlib.Core.List.{List, [], ◌∷◌, ◌++◌}
 use mathlib.Core.Logic.{inl, inr}
-use Rattle.rules.specs.Outcome.{Outcome, good, bad, and_then, found, passed}
+use Rattle.rules.specs.Outcome.{Outcome, good, bad, and_then, found, passed, Refusal}
 use Rattle.rules.specs.Checks.{Check, runs, checked, All, First}
-use Rattle.rules.specs.declared.Refusal.{Refusal}
 use Rattle.rules.proofs.OutcomeLaws.{good_bad, bad_good}
 
 -- ---- of any list of checks

@@ -2,6 +2,7 @@ pub mod FirstLaws
 pub mod BytesLaws
 pub mod OutcomeLaws
 pub mod ChecksLaws
+pub mod ResultLaws
 pub mod MemoryLaws
 pub mod SignedLaws
 pub mod Tests

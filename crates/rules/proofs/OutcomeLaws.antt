@@ -4,8 +4,7 @@ use Prim.Native.Nat.{ℕ}
 use mathlib.Core.Path.{◌≡◌, refl}
 use mathlib.Core.Bool.{Bool, true, false, cond, ◌&&◌}
 use native.Mathlib.Omega.{arith}
-use Rattle.rules.specs.Outcome.{Outcome, good, bad, and_then, refuse, require}
-use Rattle.rules.specs.declared.Refusal.{Refusal}
+use Rattle.rules.specs.Outcome.{Outcome, good, bad, and_then, refuse, require, Refusal}
 
 -- nothing is both: a value and a refusal, or what holds and what does not
 pub good_bad : {A P : Type 0} {a : A} {r : Refusal} → ◌≡◌ {A = Outcome A} (good a) (bad r) → P

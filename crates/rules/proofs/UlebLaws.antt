@@ -28,26 +28,25 @@ pub above_extend : (low scale digit : ℕ) (r : Uleb) → above low scale (exten
 above_extend low scale digit (number v next) = ap (λ (x : ℕ). number x next) (simp (mul-add, add_assoc, mul_assoc))
 above_extend low scale digit malformed = refl
 
--- the scale with so many bytes left: a digit and the scale after it stay below 2^64
-pub room : (left scale d : ℕ) → 1 < left → left ≤ 10 → scale ≡ 128 ^ (10 - left) → d < 128
-    → (scale * d + scale ≤ scale * 128) × (scale * 128 ≤ 2 ^ 63)
-room left scale d l m e h =
-    let below : 10 - left ≤ 8 = omega arith in
-    let small : 128 ^ (10 - left) ≤ 128 ^ 8 = pow-le-pow_right {n = 128} (omega arith) below in
+-- the scale at byte k: a digit and the scale after it stay below 2^64
+pub room : (k scale d : ℕ) → 1 ≤ k → k < 10 → scale ≡ 128 ^ (k - 1) → d < 128 → (scale * d + scale ≤ scale * 128) × (scale * 128 ≤ 2 ^ 63)
+room k scale d l m e h =
+    let below : k - 1 ≤ 8 = omega arith in
+    let small : 128 ^ (k - 1) ≤ 128 ^ 8 = pow-le-pow_right {n = 128} (omega arith) below in
     let mono : scale * (d + 1) ≤ scale * 128 = mul-le-mul_left scale (omega arith) in
     (omega (arith, simp (mul-add, mul-one) at mono), omega arith)
 
 -- the tenth byte is worth 2^63
-pub tenth : (left scale d : ℕ) → left ≡ 1 → scale ≡ 128 ^ (10 - left) → d < 2 → scale * d ≤ 2 ^ 63
-tenth left scale d l e h =
-    let k : 10 - left ≡ 9 = omega arith in
-    let full : scale ≡ 128 ^ 9 = rw k at e in
+pub tenth : (k scale d : ℕ) → k ≡ 10 → scale ≡ 128 ^ (k - 1) → d < 2 → scale * d ≤ 2 ^ 63
+tenth k scale d l e h =
+    let n : k - 1 ≡ 9 = omega arith in
+    let full : scale ≡ 128 ^ 9 = rw n at e in
     let mono : scale * d ≤ scale * 1 = mul-le-mul_left scale (omega arith) in
     omega arith
 
 -- one byte more
-pub scaled : (left scale : ℕ) → 1 < left → left ≤ 10 → scale ≡ 128 ^ (10 - left) → scale * 128 ≡ 128 ^ (10 - (left - 1))
-scaled left scale l m e = let k : 10 - (left - 1) ≡ suc (10 - left) = omega arith in rw (k, e, pow-suc)
+pub scaled : (k scale : ℕ) → 1 ≤ k → scale ≡ 128 ^ (k - 1) → scale * 128 ≡ 128 ^ (k + 1 - 1)
+scaled k scale l e = let n : k + 1 - 1 ≡ suc (k - 1) = omega arith in rw (n, e, pow-suc)
 
 module _ (s : List ℕ) (at : ℕ) where
   -- the table ends

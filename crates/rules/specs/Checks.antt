@@ -1,8 +1,7 @@
 -- Checks in a row: every one passes, or the first that does not is answered.
 -- Assumes nothing.
 use Rattle.std.specs.Prelude.{◌≡◌, List, [], ◌∷◌, ◌⊎◌}
-use Rattle.rules.specs.Outcome.{Outcome, good, bad, and_then}
-use Rattle.rules.specs.declared.Refusal.{Refusal}
+use Rattle.rules.specs.Outcome.{Outcome, good, bad, and_then, Refusal}
 
 -- a check passes, or refuses
 abbrev pub Check : Type 0

@@ -1,6 +1,6 @@
 -- Checks 8, 16 and 9: global descriptors.
 -- Assumes nothing.
-use Rattle.std.specs.Prelude.{ℕ, zero, suc, ◌+◌, ◌*◌, ◌-◌, ◌/◌, ◌%◌, Bool, true, false, cond, not, ◌&&◌, List, [], ◌∷◌, length, get_or, ltb, leb, eqb}
+use Rattle.std.specs.Prelude.{ℕ, zero, suc, ◌+◌, ◌*◌, ◌-◌, ◌/◌, ◌%◌, Bool, true, false, cond, not, ◌&&◌, List, [], ◌∷◌, length, get_or, ltb, leb, eqb, Option, Some, None}
 use Rattle.rules.specs.Outcome.{Outcome, good, bad, found, refuse, and_then, require}
 use Rattle.rules.specs.Limits.{address_limit, global_limit, granule}
 use Rattle.rules.specs.Bytes.{part}
@@ -9,7 +9,6 @@ use Rattle.rules.specs.declared.Headers.{Headers}
 use Rattle.rules.specs.declared.Descriptors.{Descriptors}
 use Rattle.rules.specs.declared.Global.{Global}
 use Rattle.rules.specs.declared.Cursor.{Cursor}
-use Rattle.rules.specs.declared.Reading.{Reading}
 
 -- a ULEB128 number with the position after it, or none
 pub data Uleb : Type 0 where
@@ -123,10 +122,10 @@ step_at index s c =
     (refuse 8 index)
 
 -- a global and the cursor after it as plain numbers; no granules where none was read
-abbrev pub reading_of : Outcome Read → Reading
-reading_of (good finished) = record { start = 0; granules = 0; position = 0; end = 0 }
-reading_of (good (global g c)) = record { start = g.start; granules = g.granules; position = c.position; end = c.end }
-reading_of (bad r) = record { start = 0; granules = 0; position = 0; end = 0 }
+abbrev pub reading_of : Outcome Read → Option (Global × Cursor)
+reading_of (good finished) = None
+reading_of (good (global g c)) = Some (g, c)
+reading_of (bad r) = None
 
 -- the table's end is the end of the globals
 abbrev pub on_global : Read → (Global → Cursor → Outcome (List Global)) → Outcome (List Global)

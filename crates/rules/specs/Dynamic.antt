@@ -1,6 +1,6 @@
 -- Checks 5 and 6: PT_DYNAMIC, and the dynamic entries up to the first DT_NULL.
 -- Assumes nothing.
-use Rattle.std.specs.Prelude.{ℕ, ◌+◌, ◌*◌, ◌-◌, ◌/◌, ◌%◌, Bool, true, false, cond, not, ◌&&◌, ◌||◌, List, [], ◌∷◌, ◌++◌, length, get_or, ltb, leb, eqb}
+use Rattle.std.specs.Prelude.{ℕ, ◌+◌, ◌*◌, ◌-◌, ◌/◌, ◌%◌, Bool, true, false, cond, not, ◌&&◌, ◌||◌, List, [], ◌∷◌, ◌++◌, length, get_or, ltb, leb, eqb, Option, Some, None}
 use Rattle.rules.specs.Outcome.{Outcome, good, refuse, and_then, require}
 use Rattle.rules.specs.Checks.{Check}
 use Rattle.rules.specs.Limits.{dynamic_limit}
@@ -9,13 +9,9 @@ use Rattle.rules.specs.First.{first, some_below, faultless}
 use Rattle.rules.specs.Segments.{header_at, is_dynamic, backing_of}
 use Rattle.rules.specs.declared.Headers.{Headers}
 use Rattle.rules.specs.declared.Segment.{Segment}
-use Rattle.rules.specs.declared.Backing.{Backing}
-use Rattle.rules.specs.declared.Backing.TheVariants.{At, Nowhere}
 use Rattle.rules.specs.declared.Dynamic.{Dynamic}
-use Rattle.rules.specs.declared.Entry.{Entry}
-use Rattle.rules.specs.declared.Entry.TheVariants as entry
 use Rattle.rules.specs.declared.Allowed.{Allowed}
-use Rattle.rules.specs.declared.Allowed.TheVariants.{Any, Exactly24, Multiple24, Exactly8, Multiple8, Flag, Never}
+use Rattle.rules.specs.declared.Allowed.TheVariants.{Any, Exactly, Multiple, Flag, Never}
 use Rattle.rules.specs.declared.Known.{Known}
 
 -- the first PT_DYNAMIC of the n headers from i on, or i + n
@@ -37,9 +33,9 @@ unfoldable pub good_size : ℕ → Bool
 good_size size = eqb (size % 16) 0 && (leb 16 size && leb size dynamic_limit)
 
 -- a PT_DYNAMIC of index i and so many bytes, whose contents are backed there in the file
-unfoldable pub dynamic_at : List ℕ → ℕ → ℕ → Backing → Outcome Dynamic
-dynamic_at f i size Nowhere = refuse 5 i
-dynamic_at f i size (At at) =
+unfoldable pub dynamic_at : List ℕ → ℕ → ℕ → Option ℕ → Outcome Dynamic
+dynamic_at f i size None = refuse 5 i
+dynamic_at f i size (Some at) =
     cond (good_size size && ltb (null_entry f at (size / 16)) (size / 16))
     (good (record { at = at; entries = null_entry f at (size / 16) }))
     (refuse 5 i)
@@ -122,10 +118,10 @@ row tag group allowed = record { tag = tag; group = group; allowed = allowed }
 -- the rows of ELF64; REL and JMPREL are never allowed
 abbrev pub base_tags : List Known
 base_tags =
-    row symtab symtab Any ∷ row syment symtab Exactly24
-    ∷ row rela rela Any ∷ row relasz rela Multiple24 ∷ row relaent rela Exactly24
+    row symtab symtab Any ∷ row syment symtab (Exactly 24)
+    ∷ row rela rela Any ∷ row relasz rela (Multiple 24) ∷ row relaent rela (Exactly 24)
     ∷ row rel rel Never ∷ row jmprel jmprel Never
-    ∷ row relr relr Any ∷ row relrsz relr Multiple8 ∷ row relrent relr Exactly8 ∷ []
+    ∷ row relr relr Any ∷ row relrsz relr (Multiple 8) ∷ row relrent relr (Exactly 8) ∷ []
 
 -- and the five of the Memtag ABI
 abbrev pub known_tags : List Known
@@ -141,10 +137,8 @@ row_at known r = get_or known r (row 0 0 Any)
 
 abbrev pub allows : Allowed → ℕ → Bool
 allows Any v = true
-allows Exactly24 v = eqb v 24
-allows Multiple24 v = eqb (v % 24) 0
-allows Exactly8 v = eqb v 8
-allows Multiple8 v = eqb (v % 8) 0
+allows (Exactly n) v = eqb v n
+allows (Multiple n) v = eqb (v % n) 0
 allows Flag v = ltb v 2
 allows Never v = false
 
@@ -189,6 +183,6 @@ entries_check known f d =
     require (not (some_below (partnerless known f d) (length known))) 6 d.entries)
 
 -- the value of a tag's entry
-unfoldable pub entry_of : List ℕ → Dynamic → ℕ → Entry
+unfoldable pub entry_of : List ℕ → Dynamic → ℕ → Option ℕ
 entry_of f d tag =
-    cond (has_tag f d tag) (entry.Value (value_at f d (tag_before f d tag d.entries))) entry.Absent
+    cond (has_tag f d tag) (Some (value_at f d (tag_before f d tag d.entries))) None

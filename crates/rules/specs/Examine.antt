@@ -1,13 +1,11 @@
 -- The facts of a module; examine: every check before 12, and the facts.
 -- Assumes nothing.
-use Rattle.std.specs.Prelude.{ℕ, cond, List, [], ◌∷◌, ◌++◌, eqb}
+use Rattle.std.specs.Prelude.{ℕ, cond, List, [], ◌∷◌, ◌++◌, eqb, Option, Some, None}
 use Rattle.rules.specs.Outcome.{Outcome}
 use Rattle.rules.specs.Checks.{Check, checked}
 use Rattle.rules.specs.Dynamic.{memtag_mode, memtag_heap, memtag_stack, entry_of}
 use Rattle.rules.specs.Reader.{the_module, reader_checks}
 use Rattle.rules.specs.Relocations.{relocations_check, words_of}
-use Rattle.rules.specs.declared.Entry.{Entry}
-use Rattle.rules.specs.declared.Entry.TheVariants as entry
 use Rattle.rules.specs.declared.Module.{Module}
 use Rattle.rules.specs.declared.Mode.{Mode}
 use Rattle.rules.specs.declared.Mode.TheVariants as mode
@@ -16,14 +14,14 @@ use Rattle.rules.specs.declared.Switch.TheVariants as switch
 use Rattle.rules.specs.declared.Facts.{Facts}
 
 -- MEMTAG_MODE: 0 synchronous, 1 asynchronous
-abbrev pub mode_of : Entry → Mode
-mode_of entry.Absent = mode.Absent
-mode_of (entry.Value v) = cond (eqb v 0) mode.Synchronous mode.Asynchronous
+abbrev pub mode_of : Option ℕ → Mode
+mode_of None = mode.Absent
+mode_of (Some v) = cond (eqb v 0) mode.Synchronous mode.Asynchronous
 
 -- MEMTAG_HEAP and MEMTAG_STACK: 0 off, 1 on
-abbrev pub switch_of : Entry → Switch
-switch_of entry.Absent = switch.Absent
-switch_of (entry.Value v) = cond (eqb v 0) switch.Off switch.On
+abbrev pub switch_of : Option ℕ → Switch
+switch_of None = switch.Absent
+switch_of (Some v) = cond (eqb v 0) switch.Off switch.On
 
 -- the facts of a module
 unfoldable pub facts_of : List ℕ → Module → Facts

@@ -1,13 +1,11 @@
 -- Memory before relocation: each segment's bytes at its address, all other bytes 0.
 -- Assumes nothing.
-use Rattle.std.specs.Prelude.{ℕ, zero, suc, ◌+◌, ◌*◌, cond, List, get_or, replicate}
+use Rattle.std.specs.Prelude.{ℕ, zero, suc, ◌+◌, ◌*◌, cond, List, get_or, replicate, Option, Some, None}
 use Rattle.rules.specs.Bytes.{part}
 use Rattle.rules.specs.Segments.{header_at, is_load, backing_of}
 use Rattle.rules.specs.Memory.{put}
 use Rattle.rules.specs.declared.Headers.{Headers}
 use Rattle.rules.specs.declared.Segment.{Segment}
-use Rattle.rules.specs.declared.Backing.{Backing}
-use Rattle.rules.specs.declared.Backing.TheVariants.{At, Nowhere}
 
 -- the filesz bytes of a PT_LOAD from its vaddr onward
 abbrev pub put_load : List ℕ → Segment → List ℕ → List ℕ
@@ -22,9 +20,9 @@ abbrev pub image_of : List ℕ → Headers → ℕ → List ℕ
 image_of f h n = loads_over f h (replicate n 0) h.count
 
 -- the byte loaded at an address, by the file alone: the file's where it is backed; bytes past the file part are 0
-abbrev pub byte_of : List ℕ → Backing → ℕ
-byte_of f Nowhere = 0
-byte_of f (At at) = get_or f at 0
+abbrev pub byte_of : List ℕ → Option ℕ → ℕ
+byte_of f None = 0
+byte_of f (Some at) = get_or f at 0
 
 -- the n bytes loaded at an address, as a number
 unfoldable pub loaded_in : List ℕ → Headers → ℕ → ℕ → ℕ

@@ -1,24 +1,21 @@
--- What reading a ULEB128 number answers, and what one step finds, as the code has it.
+-- What reading a ULEB128 number answers, and what reading one descriptor finds, as the code has it.
 -- Assumes nothing.
-use Rattle.std.specs.Prelude.{ℕ, Bool, cond, ◌&&◌, List, eqb}
-use Rattle.rules.specs.Outcome.{Outcome, good, refuse, and_then}
-use Rattle.rules.specs.Descriptors.{Uleb, number, malformed, uleb_at, short_second, second, Read, finished, global, judged}
-use Rattle.rules.specs.declared.encoding.Found.{Found}
-use Rattle.rules.specs.declared.encoding.Uleb as declared
-use Rattle.rules.specs.declared.encoding.Uleb.TheVariants as read
+use Rattle.std.specs.Prelude.{ℕ, Bool, ◌&&◌, List, Option, Some, None, Result}
+use Rattle.rules.specs.Outcome.{Outcome, mapped, and_then}
+use Rattle.rules.specs.Answers.{of_result}
+use Rattle.rules.specs.Descriptors.{Uleb, number, malformed, uleb_at, short_second, second, Read, global, judged}
+use Rattle.rules.specs.declared.Global.{Global}
+use Rattle.rules.specs.declared.Cursor.{Cursor}
+use Rattle.rules.specs.declared.Refusal as declared
 
-abbrev pub of_uleb : declared.Uleb → Uleb
-of_uleb (read.Number v next) = number v next
-of_uleb read.Malformed = malformed
+-- a number and the position after it, or none
+abbrev pub of_uleb : Option (ℕ × ℕ) → Uleb
+of_uleb (Some p) = number p.0 p.1
+of_uleb None = malformed
 
--- the refusal of a number at an index, the table's end, or a global and the cursor after it
-abbrev pub of_found : ℕ → Found → Outcome Read
-of_found index r =
-    cond (eqb r.number 0)
-    (cond (eqb r.granules 0)
-    (good finished)
-    (good (global (record { start = r.start; granules = r.granules }) (record { position = r.position; end = r.end }))))
-    (refuse r.number index)
+-- a global and the cursor after it, or a refusal
+abbrev pub of_global : Result (Global × Cursor) declared.Refusal → Outcome Read
+of_global r = mapped (λ p. global p.0 p.1) (of_result r)
 
 -- a descriptor from its second number on, after a first of a distance that is in shortest form or not
 abbrev pub second_at : ℕ → Bool → List ℕ → ℕ → ℕ → ℕ → Outcome Read

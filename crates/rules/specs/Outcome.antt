@@ -1,7 +1,11 @@
 -- What a check comes to: a value, or a refusal with document 01's number and position.
 -- Assumes nothing.
 use Rattle.std.specs.Prelude.{ℕ, Bool, cond}
-use Rattle.rules.specs.declared.Refusal.{Refusal}
+
+-- document 01's number and position of a refusal
+pub record Refusal : Type 0 where
+  pub number : ℕ
+  pub position : ℕ
 
 pub data Outcome (A : Type 0) : Type 0 where
   good : A → Outcome A

@@ -1,6 +1,6 @@
 -- Checks 10 and 11: what is relocated, kinds, symbols and places.
 -- Assumes nothing.
-use Rattle.std.specs.Prelude.{ℕ, ◌+◌, ◌*◌, ◌-◌, ◌/◌, ◌%◌, Bool, true, false, cond, not, ◌&&◌, ◌||◌, List, get_or, leb, eqb}
+use Rattle.std.specs.Prelude.{ℕ, ◌+◌, ◌*◌, ◌-◌, ◌/◌, ◌%◌, Bool, true, false, cond, not, ◌&&◌, ◌||◌, List, get_or, leb, eqb, Option, Some, None}
 use Rattle.rules.specs.Outcome.{good, refuse}
 use Rattle.rules.specs.Checks.{Check}
 use Rattle.rules.specs.Limits.{memory_limit}
@@ -10,10 +10,6 @@ use Rattle.rules.specs.Segments.{backing_of, in_memory}
 use Rattle.rules.specs.Packed.{Named, named, packed_before}
 use Rattle.rules.specs.Image.{loaded_at}
 use Rattle.rules.specs.declared.Headers.{Headers}
-use Rattle.rules.specs.declared.Backing.{Backing}
-use Rattle.rules.specs.declared.Backing.TheVariants as backing
-use Rattle.rules.specs.declared.Entry.{Entry}
-use Rattle.rules.specs.declared.Entry.TheVariants as entry
 use Rattle.rules.specs.declared.Relocations.{Relocations}
 use Rattle.rules.specs.declared.Module.{Module}
 use Rattle.rules.specs.declared.Symbol.{Symbol}
@@ -72,10 +68,10 @@ position_at f m i = cond (is_packed m i) (m.relocations.entries + (packed_item f
 -- ---- targets
 
 -- where the entry of symbol n is backed; an address above memory's limit is in no PT_LOAD by check 4
-unfoldable pub symbol_backing : List ℕ → Headers → ℕ → Entry → Backing
-symbol_backing f h n entry.Absent = backing.Nowhere
-symbol_backing f h n (entry.Value table) =
-    cond (leb (table + 24 * n) memory_limit) (backing_of f h (table + 24 * n) 24) backing.Nowhere
+unfoldable pub symbol_backing : List ℕ → Headers → ℕ → Option ℕ → Option ℕ
+symbol_backing f h n None = None
+symbol_backing f h n (Some table) =
+    cond (leb (table + 24 * n) memory_limit) (backing_of f h (table + 24 * n) 24) None
 
 -- the fields of the symbol entry at a position of the file
 unfoldable pub symbol_of : List ℕ → ℕ → Symbol
@@ -89,12 +85,12 @@ target_of s =
     (cond (eqb s.section 0) (cond (eqb (s.info / 16) 2) Undefined Barred) (Defined s.value)))
 
 -- the symbol of an entry that must have one
-unfoldable pub named_target : List ℕ → Backing → Target
-named_target f backing.Nowhere = Barred
-named_target f (backing.At at) = target_of (symbol_of f at)
+unfoldable pub named_target : List ℕ → Option ℕ → Target
+named_target f None = Barred
+named_target f (Some at) = target_of (symbol_of f at)
 
 -- RELATIVE must have symbol 0, ABS64 and GLOB_DAT another; no other kind is allowed
-unfoldable pub target : List ℕ → Headers → Entry → ℕ → ℕ → Target
+unfoldable pub target : List ℕ → Headers → Option ℕ → ℕ → ℕ → Target
 target f h symbols kind symbol =
     cond (eqb kind relative) (cond (eqb symbol 0) Base Barred)
     (cond (eqb kind abs64 || eqb kind glob_dat)

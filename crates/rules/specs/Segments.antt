@@ -1,14 +1,12 @@
 -- Check 4, and what the PT_LOADs hold.
 -- Assumes nothing.
-use Rattle.std.specs.Prelude.{ℕ, zero, suc, ◌+◌, ◌*◌, ◌-◌, ◌/◌, ◌%◌, ◌^◌, max, Bool, false, cond, not, ◌&&◌, ◌||◌, List, length, ltb, leb, eqb}
+use Rattle.std.specs.Prelude.{ℕ, zero, suc, ◌+◌, ◌*◌, ◌-◌, ◌/◌, ◌%◌, ◌^◌, max, Bool, false, cond, not, ◌&&◌, ◌||◌, List, length, ltb, leb, eqb, Option, Some, None}
 use Rattle.rules.specs.Checks.{Check}
 use Rattle.rules.specs.Limits.{file_limit, memory_limit}
 use Rattle.rules.specs.Bytes.{le}
 use Rattle.rules.specs.First.{first, some_below, faultless}
 use Rattle.rules.specs.declared.Headers.{Headers}
 use Rattle.rules.specs.declared.Segment.{Segment}
-use Rattle.rules.specs.declared.Backing.{Backing}
-use Rattle.rules.specs.declared.Backing.TheVariants.{At, Nowhere}
 
 -- the program header of index i
 unfoldable pub header_at : List ℕ → Headers → ℕ → Segment
@@ -86,8 +84,8 @@ unfoldable pub backs : ℕ → ℕ → Segment → Bool
 backs a n s = is_load s && (covers s.vaddr s.filesz a n && leb (s.offset + s.filesz) file_limit)
 
 -- where the n bytes from a are backed, in the file
-abbrev pub backing_in : Segment → ℕ → Backing
-backing_in s a = At (s.offset + (a - s.vaddr))
+abbrev pub backing_in : Segment → ℕ → Option ℕ
+backing_in s a = Some (s.offset + (a - s.vaddr))
 
 unfoldable pub backs_at : List ℕ → Headers → ℕ → ℕ → ℕ → Bool
 backs_at f h a n i = backs a n (header_at f h i)
@@ -96,8 +94,8 @@ backs_at f h a n i = backs a n (header_at f h i)
 unfoldable pub backer : List ℕ → Headers → ℕ → ℕ → ℕ
 backer f h a n = first (backs_at f h a n) 0 h.count
 
-unfoldable pub backing_of : List ℕ → Headers → ℕ → ℕ → Backing
-backing_of f h a n = cond (ltb (backer f h a n) h.count) (backing_in (header_at f h (backer f h a n)) a) Nowhere
+unfoldable pub backing_of : List ℕ → Headers → ℕ → ℕ → Option ℕ
+backing_of f h a n = cond (ltb (backer f h a n) h.count) (backing_in (header_at f h (backer f h a n)) a) None
 
 -- the n bytes from a are inside the memory part of a PT_LOAD, a writable one where that is asked
 unfoldable pub holds : Bool → ℕ → ℕ → Segment → Bool

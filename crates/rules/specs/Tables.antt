@@ -1,32 +1,28 @@
 -- Check 7: the relocation and descriptor tables; and where any table is backed.
 -- Assumes nothing.
-use Rattle.std.specs.Prelude.{ℕ, ◌/◌, cond, List, leb, eqb}
+use Rattle.std.specs.Prelude.{ℕ, ◌/◌, cond, List, leb, eqb, Option, Some, None}
 use Rattle.rules.specs.Outcome.{Outcome, good, refuse, and_then, require}
 use Rattle.rules.specs.Limits.{entry_limit}
 use Rattle.rules.specs.Segments.{backing_of}
 use Rattle.rules.specs.Dynamic.{rela, relasz, relr, relrsz, memtag_globals, memtag_globals_size, entry_of}
 use Rattle.rules.specs.declared.Headers.{Headers}
-use Rattle.rules.specs.declared.Backing.{Backing}
-use Rattle.rules.specs.declared.Backing.TheVariants.{At, Nowhere}
 use Rattle.rules.specs.declared.Dynamic.{Dynamic}
-use Rattle.rules.specs.declared.Entry.{Entry}
-use Rattle.rules.specs.declared.Entry.TheVariants.{Absent, Value}
 use Rattle.rules.specs.declared.Relocations.{Relocations}
 use Rattle.rules.specs.declared.Descriptors.{Descriptors}
 
 -- an entry's value, 0 where it is absent: an absent table has 0 bytes
-abbrev pub or_zero : Entry → ℕ
-or_zero Absent = 0
-or_zero (Value v) = v
+abbrev pub or_zero : Option ℕ → ℕ
+or_zero None = 0
+or_zero (Some v) = v
 
 -- a table of 0 bytes is accepted at any address; any other must be backed
-unfoldable pub table_backing : List ℕ → Headers → ℕ → ℕ → Backing
-table_backing f h address bytes = cond (eqb bytes 0) (At 0) (backing_of f h address bytes)
+unfoldable pub table_backing : List ℕ → Headers → ℕ → ℕ → Option ℕ
+table_backing f h address bytes = cond (eqb bytes 0) (Some 0) (backing_of f h address bytes)
 
 -- refused with a number at a position where the table is not backed
-abbrev pub backed : ℕ → ℕ → Backing → Outcome ℕ
-backed number position Nowhere = refuse number position
-backed number position (At at) = good at
+abbrev pub backed : ℕ → ℕ → Option ℕ → Outcome ℕ
+backed number position None = refuse number position
+backed number position (Some at) = good at
 
 abbrev pub rela_address : List ℕ → Dynamic → ℕ
 rela_address f d = or_zero (entry_of f d rela)

@@ -1,29 +1,11 @@
 // Reads global descriptors, one at a time.
-ghost use Rattle.std.specs.Prelude.{◌≡◌, ◌&&◌, ◌+◌, ◌≤◌, ◌<◌, length, get_or};
+ghost use Rattle.std.specs.Prelude.{◌≡◌, ◌&&◌, ◌+◌, ◌≤◌, ◌<◌, length};
 ghost use Rattle.rules.specs.Limits.{address_limit};
-ghost use Rattle.rules.specs.Outcome.{refuse};
 ghost use Rattle.rules.specs.Descriptors.{number, uleb_at, padded, short_second, saying, judged, read_at, step_at};
 ghost use Rattle.rules.specs.Answers.{of_step};
-ghost use Rattle.rules.specs.Numbers.{of_uleb, of_found, second_at};
+ghost use Rattle.rules.specs.Numbers.{of_uleb, of_global, second_at};
 
-use crate::{ADDRESS_LIMIT, Cursor, GRANULE, Global, RADIX, Refusal, SIZES, Step};
-
-// A ULEB128 number with the position after it, or none.
-#[derive(Clone, Copy)]
-pub enum Uleb {
-    Number(u64, usize),
-    Malformed,
-}
-
-// What one step finds, as plain numbers: number is that of a refusal, or 0; granules are those of a global, or 0 at the table's end.
-#[derive(Clone, Copy)]
-pub struct Found {
-    pub number: u8,
-    pub start: u64,
-    pub granules: u64,
-    pub position: u64,
-    pub end: u64,
-}
+use crate::{ADDRESS_LIMIT, Cursor, GRANULE, Global, RADIX, Reason, Refusal, SIZES};
 
 // Bytes of a ULEB128 number.
 const ULEB_BYTES: usize = 10;
@@ -43,77 +25,27 @@ const LEAST_SECOND: u64 = SIZES - 1;
 // The limit of addresses in granules; no global ends above it.
 const GRANULE_LIMIT: u64 = ADDRESS_LIMIT / GRANULE;
 
-// The refusal numbers of checks 8, 16 and 9.
-const BAD_DESCRIPTOR: u8 = 8;
-
-const LONG_DESCRIPTOR: u8 = 16;
-
-const BAD_GLOBAL: u8 = 9;
-
-// The table's end.
-const FINISHED: Found = Found {
-    number: 0,
-    start: 0,
-    granules: 0,
-    position: 0,
-    end: 0,
-};
-
-fn wide(x: u8) -> u64
-    ensures { result ≡ x }
-{
-    x as u64
-}
-
-fn byte(s: &[u8], at: usize) -> u8
-    requires { at < length s.now }
-    ensures { result ≡ get_or s.now at 0 }
-{
-    s[at]
-}
-
-// The ULEB128 number at a position.
-pub fn read_uleb(s: &[u8], from: usize) -> Uleb
+// The ULEB128 number at a position, and the position after it; none where it is malformed.
+pub fn read_uleb(s: &[u8], from: usize) -> Option<(u64, usize)>
     ensures { of_uleb result ≡ uleb_at s.now from }
 {
     let mut at = from;
     let mut value: u64 = 0;
     let mut scale: u64 = 1;
-    let mut left: usize = ULEB_BYTES;
-    while 1 < left {
-        if s.len() <= at {
-            return Uleb::Malformed;
-        }
-        let b = byte(s, at);
-        value += scale * wide(b % MORE);
+    for _ in 1..ULEB_BYTES {
+        let b = *s.get(at)?;
+        value += scale * u64::from(b % MORE);
         at += 1;
         if b < MORE {
-            return Uleb::Number(value, at);
+            return Some((value, at));
         }
         scale *= RADIX;
-        left -= 1;
     }
-    if s.len() <= at {
-        return Uleb::Malformed;
-    }
-    let b = byte(s, at);
+    let b = *s.get(at)?;
     if TENTH_LIMIT <= b {
-        return Uleb::Malformed;
+        return None;
     }
-    Uleb::Number(value + scale * wide(b % MORE), at + 1)
-}
-
-fn refused(number: u8, index: u64) -> Found
-    requires { 0 < number }
-    ensures { of_found index result ≡ refuse number index }
-{
-    Found {
-        number: number,
-        start: 0,
-        granules: 0,
-        position: 0,
-        end: 0,
-    }
+    Some((value + scale * u64::from(b % MORE), at + 1))
 }
 
 // A number of more than one byte whose last byte is 0 is padded.
@@ -121,10 +53,7 @@ fn is_padded(s: &[u8], at: usize, next: usize) -> bool
     requires { (at < next) × (next ≤ length s.now) }
     ensures { result ≡ padded s.now at next }
 {
-    if next - at == 1 {
-        return false;
-    }
-    byte(s, next - 1) == 0
+    at + 1 < next && s[next - 1] == 0
 }
 
 // A second number in shortest form, after a first that is: the size does not go into the first, and the number is not padded.
@@ -142,59 +71,71 @@ fn is_short_second(s: &[u8], tight: bool, at: usize, v: u64, next: usize) -> boo
 }
 
 // A global whose size is `less` and 1 more, for it may be 2^64 granules.
-fn global_after(index: u64, short: bool, end: u64, distance: u64, less: u64, next: u64) -> Found
+fn global_after(
+    index: u64,
+    short: bool,
+    end: u64,
+    distance: u64,
+    less: u64,
+    next: u64,
+) -> Result<(Global, Cursor), Refusal>
     requires { end ≤ address_limit }
-    ensures { of_found index result ≡ judged index short end (saying distance (less + 1) next) }
+    ensures { of_global result ≡ judged index short end (saying distance (less + 1) next) }
 {
     if !short {
-        return refused(LONG_DESCRIPTOR, index);
+        return Err(Reason::LongForm.at(index));
     }
     if GRANULE_LIMIT < distance {
-        return refused(BAD_GLOBAL, index);
+        return Err(Reason::Global.at(index));
     }
     if GRANULE_LIMIT <= less {
-        return refused(BAD_GLOBAL, index);
+        return Err(Reason::Global.at(index));
     }
     let start = end + GRANULE * distance;
-    let stop = start + GRANULE * (less + SIZE_OFFSET);
+    let granules = less + SIZE_OFFSET;
+    let stop = start + GRANULE * granules;
     if ADDRESS_LIMIT < stop {
-        return refused(BAD_GLOBAL, index);
+        return Err(Reason::Global.at(index));
     }
-    Found {
-        number: 0,
-        start: start,
-        granules: less + SIZE_OFFSET,
+    let global = Global { start, granules };
+    let cursor = Cursor {
         position: next,
         end: stop,
-    }
+    };
+    Ok((global, cursor))
 }
 
 // The size is the second number plus 1. A size that the first number has room for is not written so.
-fn step_second(index: u64, s: &[u8], tight: bool, end: u64, distance: u64, at: usize) -> Found
+fn read_second(
+    index: u64,
+    s: &[u8],
+    tight: bool,
+    end: u64,
+    distance: u64,
+    at: usize,
+) -> Result<(Global, Cursor), Refusal>
     requires { end ≤ address_limit }
-    ensures { of_found index result ≡ second_at index tight s.now at end distance }
+    ensures { of_global result ≡ second_at index tight s.now at end distance }
 {
-    let u = read_uleb(s, at);
-    let Uleb::Number(v, next) = u else {
-        return refused(BAD_DESCRIPTOR, index);
+    let Some((v, next)) = read_uleb(s, at) else {
+        return Err(Reason::Descriptor.at(index));
     };
     let short = is_short_second(s, tight, at, v, next);
     global_after(index, short, end, distance, v, next as u64)
 }
 
 // The first number has the distance and a size, or 0 where a second number follows.
-fn step_first(index: u64, s: &[u8], end: u64, at: usize) -> Found
+fn read_first(index: u64, s: &[u8], end: u64, at: usize) -> Result<(Global, Cursor), Refusal>
     requires { end ≤ address_limit }
-    ensures { of_found index result ≡ read_at index s.now at end }
+    ensures { of_global result ≡ read_at index s.now at end }
 {
-    let u = read_uleb(s, at);
-    let Uleb::Number(v, next) = u else {
-        return refused(BAD_DESCRIPTOR, index);
+    let Some((v, next)) = read_uleb(s, at) else {
+        return Err(Reason::Descriptor.at(index));
     };
     let tight = !is_padded(s, at, next);
     let size = v % SIZES;
     if size == 0 {
-        step_second(index, s, tight, end, v / SIZES, next)
+        read_second(index, s, tight, end, v / SIZES, next)
     } else {
         global_after(
             index,
@@ -207,52 +148,27 @@ fn step_first(index: u64, s: &[u8], end: u64, at: usize) -> Found
     }
 }
 
-// One descriptor at a cursor, as plain numbers. The index is the one to report.
-pub fn read_step(table: &[u8], c: Cursor, index: u64) -> Found
-    ensures { of_found index result ≡ step_at index table.now c }
-{
-    let position = c.position;
-    let end = c.end;
-    let length = table.len() as u64;
-    if length < position {
-        return refused(BAD_DESCRIPTOR, index);
-    }
-    if end % GRANULE != 0 {
-        return refused(BAD_GLOBAL, index);
-    }
-    if ADDRESS_LIMIT < end {
-        return refused(BAD_GLOBAL, index);
-    }
-    if position < length {
-        return step_first(index, table, end, position as usize);
-    }
-    FINISHED
-}
-
 impl Cursor {
-    // One descriptor at the cursor: its global and the moved cursor. The index is the one to report.
-    pub fn step(self, table: &[u8], index: u64) -> Step
+    // One descriptor at the cursor: its global and the moved cursor; none at the table's end. The index is the one to report.
+    pub fn step(self, table: &[u8], index: u64) -> Result<Option<(Global, Cursor)>, Refusal>
         ensures { of_step result ≡ step_at index table.now self }
     {
-        let found = read_step(table, self, index);
-        if found.number != 0 {
-            let r = Refusal {
-                number: found.number,
-                position: index,
-            };
-            return Step::Refused(r);
+        let position = self.position;
+        let end = self.end;
+        let length = table.len() as u64;
+        if length < position {
+            return Err(Reason::Descriptor.at(index));
         }
-        if found.granules == 0 {
-            return Step::Finished;
+        if end % GRANULE != 0 {
+            return Err(Reason::Global.at(index));
         }
-        let g = Global {
-            start: found.start,
-            granules: found.granules,
-        };
-        let c = Cursor {
-            position: found.position,
-            end: found.end,
-        };
-        Step::Global(g, c)
+        if ADDRESS_LIMIT < end {
+            return Err(Reason::Global.at(index));
+        }
+        if position == length {
+            return Ok(None);
+        }
+        let read = read_first(index, table, end, position as usize)?;
+        Ok(Some(read))
     }
 }

@@ -1,6 +1,9 @@
 // The types that the layers share. The rules themselves are the definitions in specs/, a file for each topic of document 01.
 #![tactic(auto)]
 
+ghost use Rattle.std.specs.Prelude.{◌≡◌};
+ghost use Rattle.rules.specs.Answers.{number_of, list_number_of};
+
 // Global descriptors: the reading of one at a cursor. A method stands in the crate of its struct.
 pub mod encoding;
 
@@ -78,17 +81,92 @@ pub const DT_MEMTAG_GLOBALS: u64 = 0x7000000d;
 
 pub const DT_MEMTAG_GLOBALSSZ: u64 = 0x7000000f;
 
-// The refusal of an arm that is never taken.
-pub const NEVER: Refusal = Refusal {
-    number: 0,
-    position: 0,
-};
+// Why a file or a load is refused: document 01's checks, each by its number.
+#[derive(Clone, Copy, PartialEq, Eq)]
+pub enum Reason {
+    Length = 1,
+    Identification = 2,
+    Header = 3,
+    Load = 4,
+    Dynamic = 5,
+    Entry = 6,
+    Table = 7,
+    Descriptor = 8,
+    Global = 9,
+    Target = 10,
+    Place = 11,
+    Lending = 12,
+    Address = 13,
+    Choice = 14,
+    Packed = 15,
+    LongForm = 16,
+}
 
-// Why a call was refused: document 01's number and position.
-#[derive(Clone, Copy)]
+// Why a list of globals is refused, by the writer, the picker or both.
+#[derive(Clone, Copy, PartialEq, Eq)]
+pub enum ListReason {
+    UnequalLists = 1,
+    NoSize = 2,
+    NoMultiple = 3,
+    EarlyStart = 4,
+    HighEnd = 5,
+    SmallBuffer = 6,
+    UnequalPicks = 7,
+    FewTags = 8,
+}
+
+// A refusal: document 01's number and position.
+#[derive(Clone, Copy, PartialEq, Eq)]
 pub struct Refusal {
-    pub number: u8,
+    pub reason: Reason,
     pub position: u64,
+}
+
+// The same of a list of globals: the position is a global's index.
+#[derive(Clone, Copy, PartialEq, Eq)]
+pub struct ListRefusal {
+    pub reason: ListReason,
+    pub position: u64,
+}
+
+impl Reason {
+    // The refusal at a position.
+    pub fn at(self, position: u64) -> Refusal
+        ensures { result ≡ record { reason = self; position = position } }
+    {
+        Refusal {
+            reason: self,
+            position,
+        }
+    }
+}
+
+impl ListReason {
+    // The refusal at a global's index.
+    pub fn at(self, position: u64) -> ListRefusal
+        ensures { result ≡ record { reason = self; position = position } }
+    {
+        ListRefusal {
+            reason: self,
+            position,
+        }
+    }
+}
+
+impl From<Reason> for u8 {
+    ghost from_gives = { λ r n. n ≡ number_of r };
+
+    fn from(r: Reason) -> u8 {
+        r as u8
+    }
+}
+
+impl From<ListReason> for u8 {
+    ghost from_gives = { λ r n. n ≡ list_number_of r };
+
+    fn from(r: ListReason) -> u8 {
+        r as u8
+    }
 }
 
 // Where the program header table stands in the file, and how many headers it has.
@@ -110,13 +188,6 @@ pub struct Segment {
     pub align: u64,
 }
 
-// Where bytes at an address stand in the file.
-#[derive(Clone, Copy)]
-pub enum Backing {
-    At(u32),
-    Nowhere,
-}
-
 // Where the dynamic table stands in the file, and how many entries come before the first DT_NULL.
 #[derive(Clone, Copy)]
 pub struct Dynamic {
@@ -124,21 +195,12 @@ pub struct Dynamic {
     pub entries: u32,
 }
 
-// The value of a dynamic entry.
-#[derive(Clone, Copy)]
-pub enum Entry {
-    Absent,
-    Value(u64),
-}
-
 // Which values of a dynamic entry are allowed.
 #[derive(Clone, Copy)]
 pub enum Allowed {
     Any,
-    Exactly24,
-    Multiple24,
-    Exactly8,
-    Multiple8,
+    Exactly(u64),
+    Multiple(u64),
     Flag,
     Never,
 }
@@ -187,21 +249,12 @@ pub struct Cursor {
     pub end: u64,
 }
 
-// A global that was read and the cursor after it, as plain numbers; no granules where none was read.
-#[derive(Clone, Copy)]
-pub struct Reading {
-    pub start: u64,
-    pub granules: u64,
-    pub position: u64,
-    pub end: u64,
-}
-
 // What the ELF reader finds in a file that passes checks 1 to 7, 15, 8, 16 and 9. The symbol table is known by its address.
 #[derive(Clone, Copy)]
 pub struct Module {
     pub headers: Headers,
     pub dynamic: Dynamic,
-    pub symbols: Entry,
+    pub symbols: Option<u64>,
     pub relocations: Relocations,
     pub packed: Packed,
     pub descriptors: Descriptors,
@@ -255,108 +308,9 @@ pub struct Facts {
     pub words: u32,
 }
 
-// The answer of a check that finds nothing out.
-#[derive(Clone, Copy)]
-pub enum Checked {
-    Passed,
-    Refused(Refusal),
-}
-
-// The answer of checks 1 to 3.
-#[derive(Clone, Copy)]
-pub enum HeadersAnswer {
-    Found(Headers),
-    Refused(Refusal),
-}
-
-// The answer of check 5.
-#[derive(Clone, Copy)]
-pub enum DynamicAnswer {
-    Found(Dynamic),
-    Refused(Refusal),
-}
-
-// The answers of check 7.
-#[derive(Clone, Copy)]
-pub enum RelocationsAnswer {
-    Found(Relocations),
-    Refused(Refusal),
-}
-
-#[derive(Clone, Copy)]
-pub enum DescriptorsAnswer {
-    Found(Descriptors),
-    Refused(Refusal),
-}
-
-// The answer of check 15.
-#[derive(Clone, Copy)]
-pub enum PackedAnswer {
-    Found(Packed),
-    Refused(Refusal),
-}
-
-// What reading one descriptor finds: the table's end, or a global and the moved cursor.
-#[derive(Clone, Copy)]
-pub enum Step {
-    Finished,
-    Global(Global, Cursor),
-    Refused(Refusal),
-}
-
-// How many globals a table lists, in the walk of checks 8, 16 and 9.
-#[derive(Clone, Copy)]
-pub enum GlobalsAnswer {
-    Found(u32),
-    Refused(Refusal),
-}
-
-// The answer of the writer: the table's length.
-#[derive(Clone, Copy)]
-pub enum TableAnswer {
-    Written(u64),
-    Refused(Refusal),
-}
-
-// The answer of the picker: how many globals have got a tag.
-#[derive(Clone, Copy)]
-pub enum PicksAnswer {
-    Picked(u64),
-    Refused(Refusal),
-}
-
-// The answer of the ELF reader, checks 1 to 7, 15, 8, 16 and 9.
-#[derive(Clone, Copy)]
-pub enum ModuleAnswer {
-    Found(Module),
-    Refused(Refusal),
-}
-
-// The answer of examine and of the load.
-#[derive(Clone, Copy)]
-pub enum Answer {
-    Taken(Facts),
-    Refused(Refusal),
-}
-
-// What the walk of what is relocated finds besides: how many words there are, and one more than the position of the first address
-// out of range, or 0 where there is none.
+// What the walk of what is relocated finds besides: how many words there are, and the position of the first address out of range.
 #[derive(Clone, Copy)]
 pub struct Walked {
     pub words: u32,
-    pub outside: u64,
-}
-
-// The answer of checks 10 and 11.
-#[derive(Clone, Copy)]
-pub enum WalkAnswer {
-    Found(Walked),
-    Refused(Refusal),
-}
-
-// A relocated address, where it is in range.
-#[derive(Clone, Copy)]
-pub enum Address {
-    At(u64),
-    Outside,
+    pub outside: Option<u64>,
 }

@@ -1,5 +1,6 @@
 -- What follows where bytes are backed.
 -- Assumes nothing.
+use Rattle.std.specs.Prelude.{Some}
 use Prim.Native.Nat.{ℕ, ◌+◌, ◌*◌, ◌-◌, ◌≤◌}
 use mathlib.Core.Path.{◌≡◌, refl}
 use mathlib.Core.Bool.{Bool, true, false, cond}
@@ -12,7 +13,6 @@ use Rattle.rules.specs.Bytes.{le}
 use Rattle.rules.specs.Segments.{header_at, covers, backs, backing_in, backs_at}
 use Rattle.rules.specs.declared.Headers.{Headers}
 use Rattle.rules.specs.declared.Segment.{Segment}
-use Rattle.rules.specs.declared.Backing.TheVariants.{At}
 use Rattle.rules.proofs.OutcomeLaws.{and_left, and_right}
 
 -- what is backed lies in the segment's file part, and that in the file's limit
@@ -29,7 +29,7 @@ module _ (f : List ℕ) (h : Headers) (a n i offset vaddr : ℕ) (o : offset ≡
   unfolding backs_at header_at
   fields_inside e = let b = backs_inside a n (header_at f h i) e in (omega arith, omega arith)
 
-  pub fields_backing : At (offset + (a - vaddr)) ≡ backing_in (header_at f h i) a
+  pub fields_backing : Some (offset + (a - vaddr)) ≡ backing_in (header_at f h i) a
   unfolding header_at
   fields_backing = rw (o, v)
 

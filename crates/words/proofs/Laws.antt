@@ -1,5 +1,6 @@
 -- Sums with a two's complement number, by its sign, and the tag at an address.
 -- Assumes nothing.
+use Rattle.std.specs.Prelude.{Some, None}
 use Rattle.std.proofs.Common.{◌≡◌, ℕ, suc, ◌+◌, ◌-◌, ◌/◌, ◌%◌, ◌^◌, ◌<◌, ◌≤◌, cond, ltb, List, get_or, pos, negsuc, ◌+ℤ◌, sym, ap, ◌∙◌, arith, le-ltb}
 use Rattle.std.proofs.Common.{lt-ltb, le-leb}
 use borrow.Author.Tests.{lt-leb}
@@ -8,35 +9,34 @@ use Rattle.rules.specs.Memory.{signed, mod64}
 use Rattle.rules.specs.Plane.{tag_address}
 use Rattle.rules.specs.Words.{source_tag}
 use Rattle.rules.specs.Answers.{in_range}
-use Rattle.rules.specs.declared.Address.TheVariants.{At, Outside}
 use Rattle.rules.specs.declared.Target.{Target}
 use Rattle.rules.specs.declared.Target.TheVariants.{Undefined, Barred}
 use Rattle.rules.proofs.SignedLaws.{by_ltb, mod_add}
 
 -- m and the signed a, as an address
 module _ (m a : ℕ) where
-  pub up_at : a < 2 ^ 63 → m + a < address_limit → At (m + a) ≡ in_range (pos m +ℤ signed a)
+  pub up_at : a < 2 ^ 63 → m + a < address_limit → Some (m + a) ≡ in_range (pos m +ℤ signed a)
   up_at h g = rw (lt-ltb a (2 ^ 63) h, lt-leb (address_limit) (m + a) g)
 
-  pub up_out : a < 2 ^ 63 → address_limit ≤ m + a → Outside ≡ in_range (pos m +ℤ signed a)
+  pub up_out : a < 2 ^ 63 → address_limit ≤ m + a → None ≡ in_range (pos m +ℤ signed a)
   up_out h g = rw (lt-ltb a (2 ^ 63) h, le-leb (address_limit) (m + a) g)
 
-  pub down_low : 2 ^ 63 ≤ a → m + a < 2 ^ 64 → Outside ≡ in_range (pos m +ℤ signed a)
+  pub down_low : 2 ^ 63 ≤ a → m + a < 2 ^ 64 → None ≡ in_range (pos m +ℤ signed a)
   down_low h g = rw (le-ltb a (2 ^ 63) h, lt-ltb m (suc (2 ^ 64 - suc a)) (omega arith))
 
-  pub down_at : (x : ℕ) → 2 ^ 63 ≤ a → a < 2 ^ 64 → x + 2 ^ 64 ≡ m + a → x < address_limit → At x ≡ in_range (pos m +ℤ signed a)
+  pub down_at : (x : ℕ) → 2 ^ 63 ≤ a → a < 2 ^ 64 → x + 2 ^ 64 ≡ m + a → x < address_limit → Some x ≡ in_range (pos m +ℤ signed a)
   down_at x h k e g =
       let d : m - suc (2 ^ 64 - suc a) ≡ x = omega arith in
       rw (le-ltb a (2 ^ 63) h, le-ltb m (suc (2 ^ 64 - suc a)) (omega arith), d, lt-leb (address_limit) x g)
 
-  pub down_out : 2 ^ 63 ≤ a → a < 2 ^ 64 → 2 ^ 64 + address_limit ≤ m + a → Outside ≡ in_range (pos m +ℤ signed a)
+  pub down_out : 2 ^ 63 ≤ a → a < 2 ^ 64 → 2 ^ 64 + address_limit ≤ m + a → None ≡ in_range (pos m +ℤ signed a)
   down_out h k g =
       rw (le-ltb a (2 ^ 63) h, le-ltb m (suc (2 ^ 64 - suc a)) (omega arith), le-leb (address_limit) (m - suc (2 ^ 64 - suc a)) (omega arith))
 
   -- no addend takes more than 2^63 away
-  pub far_out : 2 ^ 64 ≤ m → a < 2 ^ 64 → Outside ≡ in_range (pos m +ℤ signed a)
+  pub far_out : 2 ^ 64 ≤ m → a < 2 ^ 64 → None ≡ in_range (pos m +ℤ signed a)
   far_out h k =
-      by_ltb (λ t. Outside ≡ in_range (pos m +ℤ cond t (pos a) (negsuc (2 ^ 64 - suc a)))) a (2 ^ 63)
+      by_ltb (λ t. None ≡ in_range (pos m +ℤ cond t (pos a) (negsuc (2 ^ 64 - suc a)))) a (2 ^ 63)
       (λ l. rw (le-leb (address_limit) (m + a) (omega arith)))
       (λ l. rw (le-ltb m (suc (2 ^ 64 - suc a)) (omega arith), le-leb (address_limit) (m - suc (2 ^ 64 - suc a)) (omega arith)))
 

@@ -8,10 +8,9 @@ use native.Mathlib.Omega.{arith}
 use lib.ListN.{length}
 use lib.Dec.{leb}
 use borrow.Author.Tests.{eq-eqb, ne_eqb, leb-true, le-leb, lt-leb}
-use Rattle.rules.specs.Outcome.{Outcome, good, bad, refuse}
+use Rattle.rules.specs.Outcome.{Outcome, good, bad, refuse, Refusal}
 use Rattle.rules.specs.Memory.{put}
 use Rattle.rules.specs.Writer.{table_of, list_check, written_of}
-use Rattle.rules.specs.declared.Refusal.{Refusal}
 use Rattle.rules.proofs.OutcomeLaws.{good_bad, and_then_good}
 use Rattle.laws.proofs.Checks.{and_then_bad}
 use Rattle.laws.proofs.Listed.{table_short}

@@ -31,8 +31,8 @@ overflow_sub-result c =
 pub returns-then-holds_range : goal.returns-then-holds_range
 returns-then-holds_range c =
     let a = c.args in
-    nears_part a.f.now a.m c.in-Value.table c.find_part-part.result c.find_part-part.ensures
-    (sym c.holds_range.ensures ∙ c.if-holds_range.true) c.in-Value.is
+    nears_part a.f.now a.m c.in-Some.table c.find_part-part.result c.find_part-part.ensures
+    (sym c.holds_range.ensures ∙ c.if-holds_range.true) c.in-Some.is
 
 pub returns : goal.returns
 returns c = let a = c.args in nears_none a.f.now a.m

@@ -19,7 +19,7 @@ pub returns-then-entries-n : goal.returns-then-entries-n
 unfolding dynamic_at
 returns-then-entries-n c =
     rw (
-      c.in-At.is,
+      c.in-Some.is,
       ← c.is_good_size.ensures,
       c.if-is_good_size.true,
       ← c.null_entry-entries.ensures,
@@ -30,7 +30,7 @@ pub returns-then-is_good_size : goal.returns-then-is_good_size
 unfolding dynamic_at
 returns-then-is_good_size c =
     rw (
-      c.in-At.is,
+      c.in-Some.is,
       ← c.is_good_size.ensures,
       c.if-is_good_size.true,
       ← c.null_entry-entries.ensures,
@@ -39,4 +39,4 @@ returns-then-is_good_size c =
 
 pub returns : goal.returns
 unfolding dynamic_at
-returns c = rw (c.in-At.is, ← c.is_good_size.ensures, c.if-is_good_size.false)
+returns c = rw (c.in-Some.is, ← c.is_good_size.ensures, c.if-is_good_size.false)

@@ -7,7 +7,7 @@ pub returns-in_default : goal.returns-in_default
 returns-in_default c = rw c.in_default.is
 
 pub returns-then-value-eq0 : goal.returns-then-value-eq0
-returns-then-value-eq0 c = rw (c.in-Value.is, eq-eqb _ _ c.if-value-eq0.true)
+returns-then-value-eq0 c = rw (c.in-Some.is, eq-eqb _ _ c.if-value-eq0.true)
 
 pub returns : goal.returns
-returns c = rw (c.in-Value.is, ne_eqb _ _ c.if-value-eq0.false)
+returns c = rw (c.in-Some.is, ne_eqb _ _ c.if-value-eq0.false)

@@ -1,9 +1,8 @@
 -- By what the step found: a refusal is passed up, anything else ends the walk.
 -- Assumes nothing.
 use Rattle.std.proofs.Common.{ℕ, ◌≡◌, refl, sym}
-use Rattle.rules.specs.Outcome.{good, and_then}
+use Rattle.rules.specs.Outcome.{good, and_then, Refusal}
 use Rattle.rules.specs.Answers.{of_step}
-use Rattle.rules.specs.declared.Refusal.{Refusal}
 use Rattle.rules.specs.declared.Step.{Step}
 use Rattle.rules.specs.declared.Step.TheVariants as step
 use Rattle.globals.proofs.finish.Goals as goal

@@ -9,4 +9,4 @@ returns-in_default c = rw c.in_default.is
 
 pub returns : goal.returns
 unfolding named_target
-returns c = rw (c.in-At.is, ← c.symbol_of-s.ensures) c.target_of.ensures
+returns c = rw (c.in-Some.is, ← c.symbol_of-s.ensures) c.target_of.ensures

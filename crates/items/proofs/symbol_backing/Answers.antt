@@ -16,16 +16,16 @@ returns-in_default c = rw c.in_default.is
 
 pub overflow_add-table : goal.overflow_add-table
 overflow_add-table c =
-    let at = c.in-Value.table + 24 * c.args.n in
+    let at = c.in-Some.table + 24 * c.args.n in
     let h : leb at memory_limit ≡ true = rw (← c.sum_within.ensures) c.if-sum_within.true in
     omega (arith, leb-true at memory_limit h)
 
 pub returns-then-sum_within : goal.returns-then-sum_within
 unfolding symbol_backing
 returns-then-sum_within c =
-    rw (c.in-Value.is, ← c.sum_within.ensures, c.if-sum_within.true) c.backing_of.ensures
+    rw (c.in-Some.is, ← c.sum_within.ensures, c.if-sum_within.true) c.backing_of.ensures
 
 pub returns : goal.returns
 unfolding symbol_backing
 returns c =
-    rw (c.in-Value.is, ← c.sum_within.ensures, c.if-sum_within.false)
+    rw (c.in-Some.is, ← c.sum_within.ensures, c.if-sum_within.false)

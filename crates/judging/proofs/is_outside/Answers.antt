@@ -13,4 +13,4 @@ returns-in_default c =
 pub returns : goal.returns
 returns c =
     let a = c.args in
-    sym (at_in (address_of a.bias a.t a.addend) _ (sym c.address_of-a.ensures ∙ c.in-At.is))
+    sym (at_in (address_of a.bias a.t a.addend) _ (sym c.address_of-a.ensures ∙ c.in-Some.is))

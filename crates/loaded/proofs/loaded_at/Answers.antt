@@ -7,4 +7,4 @@ use Rattle.loaded.proofs.loaded_at.Goals as goal
 pub returns : goal.returns
 returns c =
     let a = c.args in
-    c.read64.ensures ∙ sym (loaded-backed a.f.now a.h c.requires.0 a.place _ (sym c.backing_of-p.ensures ∙ c.in-At.is))
+    c.read64.ensures ∙ sym (loaded-backed a.f.now a.h c.requires.0 a.place _ (sym c.backing_of-p.ensures ∙ c.in-Some.is))

@@ -1,7 +1,7 @@
 -- The cursor's answer, and its words.
 -- Assumes nothing.
+use Rattle.rules.specs.Outcome.{Refusal}
 use Rattle.std.proofs.Common.{◌≡◌, refl}
-use Rattle.rules.specs.declared.Refusal.{Refusal}
 use Rattle.rules.specs.declared.Global.{Global}
 use Rattle.rules.specs.declared.Cursor.{Cursor}
 use Rattle.rules.specs.declared.Step.{Step}

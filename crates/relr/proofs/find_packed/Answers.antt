@@ -14,8 +14,8 @@ returns-in_default c =
 pub overflow_cast-words : goal.overflow_cast-words
 overflow_cast-words c =
     let a = c.args in
-    let h = table_size a.f.now a.h c.value_of-address.result c.value_of-bytes.result c.in-At.at
-    (rw (← c.table_backing-backing.ensures) c.in-At.is) in
+    let h = table_size a.f.now a.h c.value_of-address.result c.value_of-bytes.result c.in-Some.at
+    (rw (← c.table_backing-backing.ensures) c.in-Some.is) in
     omega arith
 
 pub returns-in-Found : goal.returns-in-Found
@@ -25,7 +25,7 @@ returns-in-Found c =
       ← c.value_of-address.ensures,
       ← c.value_of-bytes.ensures,
       ← c.table_backing-backing.ensures,
-      c.in-At.is,
+      c.in-Some.is,
       packed_count_lem,
       ← c.count_places-counted.ensures,
       c.in-Found.is,
@@ -38,7 +38,7 @@ returns-in-Refused c =
       ← c.value_of-address.ensures,
       ← c.value_of-bytes.ensures,
       ← c.table_backing-backing.ensures,
-      c.in-At.is,
+      c.in-Some.is,
       packed_count_lem,
       ← c.count_places-counted.ensures,
       c.in-Refused.is,

@@ -13,11 +13,11 @@ returns-in_default c =
 pub overflow_cast-result : goal.overflow_cast-result
 overflow_cast-result c =
     let a = c.args in
-    let h = table_size a.f.now a.h c.value_of-address.result c.value_of-bytes.result c.in-At.at
-    (rw (← c.table_backing-backing.ensures) c.in-At.is) in
+    let h = table_size a.f.now a.h c.value_of-address.result c.value_of-bytes.result c.in-Some.at
+    (rw (← c.table_backing-backing.ensures) c.in-Some.is) in
     omega arith
 
 pub returns : goal.returns
 unfolding descriptors_of
 returns c =
-    rw (← c.value_of-address.ensures, ← c.value_of-bytes.ensures, ← c.table_backing-backing.ensures, c.in-At.is)
+    rw (← c.value_of-address.ensures, ← c.value_of-bytes.ensures, ← c.table_backing-backing.ensures, c.in-Some.is)

@@ -12,9 +12,9 @@ returns-in_default c =
 pub returns-then-entries : goal.returns-then-entries
 unfolding relocations_of
 returns-then-entries c =
-    rw (← c.value_of-address.ensures, ← c.value_of-bytes.ensures, ← c.table_backing-backing.ensures, c.in-At.is, lt-leb _ _ c.if-entries.true)
+    rw (← c.value_of-address.ensures, ← c.value_of-bytes.ensures, ← c.table_backing-backing.ensures, c.in-Some.is, lt-leb _ _ c.if-entries.true)
 
 pub returns : goal.returns
 unfolding relocations_of
 returns c =
-    rw (← c.value_of-address.ensures, ← c.value_of-bytes.ensures, ← c.table_backing-backing.ensures, c.in-At.is, le-leb _ _ c.if-entries.false)
+    rw (← c.value_of-address.ensures, ← c.value_of-bytes.ensures, ← c.table_backing-backing.ensures, c.in-Some.is, le-leb _ _ c.if-entries.false)

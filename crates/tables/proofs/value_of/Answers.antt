@@ -2,8 +2,8 @@
 -- Assumes nothing.
 use Rattle.tables.proofs.value_of.Goals as goal
 
-pub returns-in-Absent : goal.returns-in-Absent
-returns-in-Absent c = rw (← c.entry_of-entry.ensures, c.in-Absent.is)
+pub returns-in-None : goal.returns-in-None
+returns-in-None c = rw (← c.entry_of-entry.ensures, c.in-None.is)
 
-pub returns-in-Value : goal.returns-in-Value
-returns-in-Value c = rw (← c.entry_of-entry.ensures, c.in-Value.is)
+pub returns-in-Some : goal.returns-in-Some
+returns-in-Some c = rw (← c.entry_of-entry.ensures, c.in-Some.is)

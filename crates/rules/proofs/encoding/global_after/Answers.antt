@@ -13,29 +13,28 @@ pub returns-then-not-short : goal.returns-then-not-short
 returns-then-not-short c =
     let a = c.args in
     let long : a.short ≡ false = search not-true in
-    rw (c.refused.ensures, judged_long a.index a.short a.end (saying a.distance (a.less + 1) a.next) long)
+    rw (c.at.ensures, judged_long a.index a.short a.end (saying a.distance (a.less + 1) a.next) long)
 
 pub returns-then-distance-gt-GRANULE_LIMIT : goal.returns-then-distance-gt-GRANULE_LIMIT
 returns-then-distance-gt-GRANULE_LIMIT c =
     let a = c.args in
     let short = not-false a.short c.if-not-short.false-raw in
-    rw (c.refused-then-distance-gt-GRANULE_LIMIT.ensures, judged_high a.index a.short a.end (saying a.distance (a.less + 1) a.next) short (omega arith))
+    rw (c.at-then-distance-gt-GRANULE_LIMIT.ensures, judged_high a.index a.short a.end (saying a.distance (a.less + 1) a.next) short (omega arith))
 
 pub returns-then-less-ge-GRANULE_LIMIT : goal.returns-then-less-ge-GRANULE_LIMIT
 returns-then-less-ge-GRANULE_LIMIT c =
     let a = c.args in
     let short = not-false a.short c.if-not-short.false-raw in
-    rw (c.refused-then-less-ge-GRANULE_LIMIT.ensures, judged_high a.index a.short a.end (saying a.distance (a.less + 1) a.next) short (omega arith))
+    rw (c.at-then-less-ge-GRANULE_LIMIT.ensures, judged_high a.index a.short a.end (saying a.distance (a.less + 1) a.next) short (omega arith))
 
 pub returns-then-stop-gt-ADDRESS_LIMIT : goal.returns-then-stop-gt-ADDRESS_LIMIT
 returns-then-stop-gt-ADDRESS_LIMIT c =
     let a = c.args in
     let short = not-false a.short c.if-not-short.false-raw in
-    rw (c.refused-then-stop-gt-ADDRESS_LIMIT.ensures, judged_high a.index a.short a.end (saying a.distance (a.less + 1) a.next) short (omega arith))
+    rw (c.at-then-stop-gt-ADDRESS_LIMIT.ensures, judged_high a.index a.short a.end (saying a.distance (a.less + 1) a.next) short (omega arith))
 
 pub returns : goal.returns
 returns c =
     let a = c.args in
     let short = not-false a.short c.if-not-short.false-raw in
-    let some = ne_eqb (a.less + 1) 0 (λ q. omega arith) in
-    rw (judged_low a.index a.short a.end (saying a.distance (a.less + 1) a.next) short (omega arith), some)
+    rw (judged_low a.index a.short a.end (saying a.distance (a.less + 1) a.next) short (omega arith))

@@ -6,10 +6,7 @@ use Rattle.rules.specs.Descriptors.{uleb_in}
 use Rattle.rules.proofs.UlebLaws.{above}
 use Rattle.rules.proofs.encoding.read_uleb.Given as goal
 
-abbrev pub invariant-loop-left : goal.invariant-loop-left
-invariant-loop-left l =
-    (1 ≤ l.left) × (l.left ≤ 10) × (l.scale ≡ 128 ^ (10 - l.left)) × (l.value < l.scale)
-    × (uleb_in 10 l.s l.from ≡ above l.value l.scale (uleb_in l.left l.s l.at))
-
-abbrev pub decreases-loop-left : goal.decreases-loop-left
-decreases-loop-left l = l.left
+abbrev pub invariant-loop : goal.invariant-loop
+invariant-loop l =
+    (l.counter ≤ 10) × (l.scale ≡ 128 ^ (l.counter - 1)) × (l.value < l.scale)
+    × (uleb_in 10 l.s l.from ≡ above l.value l.scale (uleb_in (11 - l.counter) l.s l.at))
