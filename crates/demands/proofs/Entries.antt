@@ -18,7 +18,7 @@ use Rattle.rules.specs.Dynamic.{has_tag, differ, partnerless, entries_check, ent
 use Rattle.rules.specs.declared.Dynamic.{Dynamic}
 use Rattle.rules.specs.declared.Known.{Known}
 use Rattle.rules.specs.declared.Allowed.{Allowed}
-use Rattle.rules.specs.declared.Allowed.TheVariants.{Exactly24, Multiple24, Exactly8, Multiple8, Flag, Never}
+use Rattle.rules.specs.declared.Allowed.TheVariants.{Exactly, Multiple, Flag, Never}
 use Rattle.rules.proofs.FirstLaws.{first_true, at_some}
 use Rattle.rules.proofs.OutcomeLaws.{true_false, false_true, and_then_good, require_held}
 use Rattle.laws.proofs.Checks.{faultless_all, all_faultless, some_all, all_some, some_at}
@@ -152,7 +152,7 @@ module _ (f : List ℕ) (d : Dynamic) where
 
   abbrev ElfRows : List Known → Type 0
   ElfRows known =
-      IsRow known 11 Exactly24 × IsRow known 8 Multiple24 × IsRow known 9 Exactly24 × IsRow known 35 Multiple8 × IsRow known 37 Exactly8
+      IsRow known 11 (Exactly 24) × IsRow known 8 (Multiple 24) × IsRow known 9 (Exactly 24) × IsRow known 35 (Multiple 8) × IsRow known 37 (Exactly 8)
       × IsRow known 17 Never × IsRow known 23 Never
 
   elf_allows : (known : List Known) (i : ℕ) → ElfRows known → Valued known i → ElfAllows (tag_at f d i) (value_at f d i)

@@ -1,5 +1,6 @@
 -- A PT_LOAD that holds some bytes holds all that its memory part covers.
 -- Assumes nothing.
+use Rattle.std.specs.Prelude.{Some}
 use Prim.Native.Nat.{ℕ, ◌+◌, ◌≤◌, ◌<◌}
 use mathlib.Core.Path.{◌≡◌}
 use mathlib.Core.Bool.{Bool, true, false, not, ◌||◌}
@@ -14,12 +15,7 @@ use Rattle.rules.proofs.OutcomeLaws.{and_left, and_right}
 use Rattle.segments.specs.Spans.{Sound, Held}
 use Rattle.segments.specs.declared.Span.{Span}
 
--- a holder of bytes covers them
-held_covers : (write : Bool) (a n : ℕ) (s : Segment) → holds write a n s ≡ true → covers s.vaddr s.memsz a n ≡ true
-unfolding holds
-held_covers write a n s h = search (and_left, and_right)
-
--- and holds any others that it covers
+-- a holder of bytes holds any others that it covers
 held_too : (write : Bool) (a n x k : ℕ) (s : Segment) → holds write a n s ≡ true → covers s.vaddr s.memsz x k ≡ true
     → holds write x k s ≡ true
 unfolding holds
@@ -42,26 +38,16 @@ module _ (f : List ℕ) (h : Headers) (write : Bool) where
   sound_none s e = record { within = λ l. absurd (omega arith) }
 
   -- the one found last holds the bytes
-  pub held_last : (a n : ℕ) (s : Span) → 0 < n → Sound f h write s → covers s.start s.size a n ≡ true → Held f h write a n s
-  held_last a n s l sound e =
-      let full = covers_some s.start s.size a n l e in
-      record { sound = sound; none = λ z. absurd (omega arith); some = λ z. sound.within z a n e }
+  pub held_last : (a n : ℕ) (s : Span) → 0 < n → Sound f h write s → covers s.start s.size a n ≡ true → Held f h write a n (Some s)
+  held_last a n s l sound e = (sound, sound.within (covers_some s.start s.size a n l e) a n e)
 
   -- the one of an index does
-  pub held_at : (a n i : ℕ) (s : Segment) → 0 < n → i < h.count → s ≡ header_at f h i → holds_at f h write a n i ≡ true
-      → Held f h write a n (record { start = s.vaddr; size = s.memsz })
+  pub held_at : (a n i : ℕ) (s : Segment) → i < h.count → s ≡ header_at f h i → holds_at f h write a n i ≡ true
+      → Held f h write a n (Some (record { start = s.vaddr; size = s.memsz }))
   unfolding in_memory holds_at
-  held_at a n i s l m e b =
+  held_at a n i s m e b =
       let hit : holds write a n s ≡ true = rw e b in
-      let full = covers_some s.vaddr s.memsz a n l (held_covers write a n s hit) in
-      record {
-        sound = record {
-          within = λ _ x k q. at_some (holds_at f h write x k) h.count i m (rw (← e) (held_too write a n x k s hit q));
-        };
-        none = λ z. absurd (omega arith);
-        some = λ _. at_some (holds_at f h write a n) h.count i m b;
-      }
-
-  -- none does
-  pub held_none : (a n : ℕ) (s : Span) → s.size ≡ 0 → in_memory f h write a n ≡ false → Held f h write a n s
-  held_none a n s e b = record { sound = sound_none s e; none = λ _. b; some = λ z. absurd (omega arith) }
+      let sound : Sound f h write (record { start = s.vaddr; size = s.memsz }) = record {
+        within = λ _ x k q. at_some (holds_at f h write x k) h.count i m (rw (← e) (held_too write a n x k s hit q));
+      } in
+      (sound, at_some (holds_at f h write a n) h.count i m b)

@@ -1,6 +1,6 @@
 -- The memory part of a PT_LOAD that was found, and is asked again.
 -- Assumes nothing.
-use Rattle.std.specs.Prelude.{ℕ, ◌<◌, ◌≡◌, Bool, true, false, List}
+use Rattle.std.specs.Prelude.{ℕ, ◌<◌, ◌≡◌, Bool, true, false, List, Option, Some, None}
 use Rattle.rules.specs.Segments.{covers, in_memory}
 use Rattle.rules.specs.declared.Headers.{Headers}
 use Rattle.segments.specs.declared.Span.{Span}
@@ -9,8 +9,7 @@ use Rattle.segments.specs.declared.Span.{Span}
 pub record Sound (f : List ℕ) (h : Headers) (write : Bool) (s : Span) : Type 0 where
   pub within : 0 < s.size → (x k : ℕ) → covers s.start s.size x k ≡ true → in_memory f h write x k ≡ true
 
--- what a search for the PT_LOAD of the n bytes from a found; size 0 where there is none
-pub record Held (f : List ℕ) (h : Headers) (write : Bool) (a n : ℕ) (s : Span) : Type 0 where
-  pub sound : Sound f h write s
-  pub none : s.size ≡ 0 → in_memory f h write a n ≡ false
-  pub some : 0 < s.size → in_memory f h write a n ≡ true
+-- what a search for the PT_LOAD of the n bytes from a found
+abbrev pub Held : List ℕ → Headers → Bool → ℕ → ℕ → Option Span → Type 0
+Held f h write a n (Some s) = Sound f h write s × (in_memory f h write a n ≡ true)
+Held f h write a n None = in_memory f h write a n ≡ false

@@ -1,20 +1,20 @@
 // The program headers one by one: where bytes are backed, and which PT_LOAD holds them.
 #![tactic(auto)]
 
-ghost use Rattle.std.specs.Prelude.{◌≡◌, false, true, cond, ◌+◌, ◌<◌, leb};
+ghost use Rattle.std.specs.Prelude.{◌≡◌, true, cond, Some, ◌+◌, ◌<◌, leb};
 ghost use Rattle.rules.specs.Segments.{header_at, is_load, loads_end, backs_at, backing_in, backing_of, holds_at};
 ghost use Rattle.segments.specs.Spans.{Sound, Held};
 
-use rules::{Backing, FILE_LIMIT, Headers, Segment};
+use rules::{FILE_LIMIT, Headers, Segment};
 
-// The memory part of a PT_LOAD; size 0 for none.
+// The memory part of a PT_LOAD, or no bytes.
 #[derive(Clone, Copy)]
 pub struct Span {
     pub start: u64,
     pub size: u64,
 }
 
-// No PT_LOAD.
+// No bytes.
 pub const NO_SPAN: Span = Span { start: 0, size: 0 };
 
 // The kind of a PT_LOAD.
@@ -53,9 +53,8 @@ fn end_within(fits: bool, s: Segment, n: u64) -> bool
 pub fn loads_end_within(f: &[u8], h: Headers, n: u64) -> bool
     ensures { result ≡ leb (loads_end f.now h) n }
 {
-    let count = h.count;
     let mut fits = true;
-    for i in 0..count {
+    for i in 0..h.count {
         let s = header_at(f, h, i);
         fits = end_within(fits, s, n);
     }
@@ -71,34 +70,31 @@ fn is_backing_at(f: &[u8], h: Headers, a: u64, n: u64, i: u32) -> bool
         return false;
     }
     let filesz = reads::read64(f, at + 32);
-    reads::both(
-        reads::holds_range(reads::read64(f, at + 16), filesz, a, n),
-        reads::sum_within(reads::read64(f, at + 8), filesz, FILE_LIMIT),
-    )
+    reads::holds_range(reads::read64(f, at + 16), filesz, a, n)
+        && reads::sum_within(reads::read64(f, at + 8), filesz, FILE_LIMIT)
 }
 
 // Where the bytes from a stand in the file, where the segment of an index backs n of them.
-fn backing_at(f: &[u8], h: Headers, a: u64, n: u64, i: u32) -> Backing
+fn backing_at(f: &[u8], h: Headers, a: u64, n: u64, i: u32) -> u32
     requires { backs_at f.now h a n i ≡ true }
-    ensures { result ≡ backing_in (header_at f.now h i) a }
+    ensures { Some result ≡ backing_in (header_at f.now h i) a }
 {
     let at = h.table as usize + HEADER_BYTES * (i as usize);
     let offset = reads::read64(f, at + 8);
     let vaddr = reads::read64(f, at + 16);
-    Backing::At((offset + (a - vaddr)) as u32)
+    (offset + (a - vaddr)) as u32
 }
 
 // Where the n bytes from a are backed.
-pub fn backing_of(f: &[u8], h: Headers, a: u64, n: u64) -> Backing
+pub fn backing_of(f: &[u8], h: Headers, a: u64, n: u64) -> Option<u32>
     ensures { result ≡ backing_of f.now h a n }
 {
-    let count = h.count;
-    for i in 0..count {
+    for i in 0..h.count {
         if is_backing_at(f, h, a, n, i) {
-            return backing_at(f, h, a, n, i);
+            return Some(backing_at(f, h, a, n, i));
         }
     }
-    Backing::Nowhere
+    None
 }
 
 // The n bytes from a are inside the memory part of the segment of an index, a writable one where that is asked.
@@ -109,49 +105,36 @@ fn is_holding_at(f: &[u8], h: Headers, write: bool, a: u64, n: u64, i: u32) -> b
     if reads::read32(f, at) != PT_LOAD {
         return false;
     }
-    let held = reads::holds_range(reads::read64(f, at + 16), reads::read64(f, at + 40), a, n);
-    if write {
-        return reads::both(reads::read32(f, at + 4) / 2 % 2 == 1, held);
+    if write && reads::read32(f, at + 4) / 2 % 2 != 1 {
+        return false;
     }
-    held
+    reads::holds_range(reads::read64(f, at + 16), reads::read64(f, at + 40), a, n)
 }
 
 // The memory part of the first PT_LOAD that holds the n bytes from a, a writable one where that is asked.
-fn find_holder(f: &[u8], h: Headers, write: bool, a: u64, n: u64) -> Span
+fn find_holder(f: &[u8], h: Headers, write: bool, a: u64, n: u64) -> Option<Span>
     requires { 0 < n }
     ensures { Held f.now h write a n result }
 {
-    let count = h.count;
-    for i in 0..count {
+    for i in 0..h.count {
         if is_holding_at(f, h, write, a, n, i) {
             let s = header_at(f, h, i);
-            return Span {
+            return Some(Span {
                 start: s.vaddr,
                 size: s.memsz,
-            };
+            });
         }
     }
-    NO_SPAN
+    None
 }
 
-// The PT_LOAD found last where it holds the n bytes from a; else the first that does.
-pub fn hold(f: &[u8], h: Headers, last: Span, a: u64, n: u64) -> Span
-    requires { (0 < n) × Sound f.now h false last }
-    ensures { Held f.now h false a n result }
+// The PT_LOAD found last where it holds the n bytes from a; else the first that does. A writable one where that is asked.
+pub fn hold(f: &[u8], h: Headers, write: bool, last: Span, a: u64, n: u64) -> Option<Span>
+    requires { (0 < n) × Sound f.now h write last }
+    ensures { Held f.now h write a n result }
 {
     if reads::holds_range(last.start, last.size, a, n) {
-        return last;
+        return Some(last);
     }
-    find_holder(f, h, false, a, n)
-}
-
-// The same among the writable ones.
-pub fn hold_writable(f: &[u8], h: Headers, last: Span, a: u64, n: u64) -> Span
-    requires { (0 < n) × Sound f.now h true last }
-    ensures { Held f.now h true a n result }
-{
-    if reads::holds_range(last.start, last.size, a, n) {
-        return last;
-    }
-    find_holder(f, h, true, a, n)
+    find_holder(f, h, write, a, n)
 }

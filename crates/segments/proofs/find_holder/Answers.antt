@@ -5,7 +5,7 @@ use native.Mathlib.Nat.{sub-zero}
 use native.Mathlib.Omega.{arith}
 use Rattle.rules.specs.Segments.{holds_at, in_memory}
 use Rattle.rules.proofs.FirstLaws.{first_step, first_none, some_none}
-use Rattle.segments.proofs.SpanLaws.{held_at, held_none}
+use Rattle.segments.proofs.SpanLaws.{held_at}
 use Rattle.segments.proofs.find_holder.Goals as goal
 
 pub loop-i-init : goal.loop-i-init
@@ -15,7 +15,7 @@ pub returns-then-is_holding_at : goal.returns-then-is_holding_at
 returns-then-is_holding_at c =
     let l = c.loop-i in
     let a = c.args in
-    held_at a.f.now a.h a.write a.a a.n l.i c.header_at-s.result (omega arith) (omega arith) c.header_at-s.ensures
+    held_at a.f.now a.h a.write a.a a.n l.i c.header_at-s.result (omega arith) c.header_at-s.ensures
     (sym c.is_holding_at.ensures ∙ c.if-is_holding_at.true)
 
 pub loop-i-preserved : goal.loop-i-preserved
@@ -31,5 +31,4 @@ returns c =
     let l = c.loop-i in
     let a = c.args in
     let t = holds_at a.f.now a.h a.write a.a a.n in
-    held_none a.f.now a.h a.write a.a a.n _ refl
-    (some_none t a.h.count (l.invariant.1 ∙ first_none t l.i a.h.count (omega arith) (omega arith)))
+    some_none t a.h.count (l.invariant.1 ∙ first_none t l.i a.h.count (omega arith) (omega arith))

@@ -7,7 +7,7 @@ use Rattle.rules.specs.Segments.{holds_at}
 use Rattle.segments.proofs.find_holder.Given as goal
 
 abbrev pub invariant-loop-i : goal.invariant-loop-i
-invariant-loop-i l = (l.i ≤ l.count) × (first (holds_at l.f l.h l.write l.a l.n) 0 l.count ≡ first (holds_at l.f l.h l.write l.a l.n) l.i (l.count - l.i))
+invariant-loop-i l = (l.i ≤ l.h.count) × (first (holds_at l.f l.h l.write l.a l.n) 0 l.h.count ≡ first (holds_at l.f l.h l.write l.a l.n) l.i (l.h.count - l.i))
 
 abbrev pub decreases-loop-i : goal.decreases-loop-i
-decreases-loop-i l = l.count - l.i
+decreases-loop-i l = l.h.count - l.i

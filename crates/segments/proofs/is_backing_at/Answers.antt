@@ -8,16 +8,28 @@ pub returns-then-read32-ne-PT_LOAD : goal.returns-then-read32-ne-PT_LOAD
 unfolding backs_at backs header_at
 returns-then-read32-ne-PT_LOAD c = rw (← c.read32.ensures, ne_eqb _ _ c.if-read32-ne-PT_LOAD.true)
 
-pub returns : goal.returns
+pub returns-then-holds_range : goal.returns-then-holds_range
 unfolding backs_at backs header_at
-returns c =
+returns-then-holds_range c =
     rw (
-      c.both.ensures,
       c.sum_within.ensures,
-      c.holds_range.ensures,
       c.read64-2.ensures,
-      c.read64.ensures,
-      c.read64-filesz.ensures,
+      ← c.read64.ensures,
+      ← c.read64-filesz.ensures,
+      ← c.holds_range.ensures,
+      c.if-holds_range.true,
+      ← c.read32.ensures,
+      eq-eqb _ _ c.if-read32-ne-PT_LOAD.false,
+    )
+
+pub returns-else-holds_range : goal.returns-else-holds_range
+unfolding backs_at backs header_at
+returns-else-holds_range c =
+    rw (
+      ← c.read64.ensures,
+      ← c.read64-filesz.ensures,
+      ← c.holds_range.ensures,
+      c.if-holds_range.false,
       ← c.read32.ensures,
       eq-eqb _ _ c.if-read32-ne-PT_LOAD.false,
     )

@@ -8,28 +8,10 @@ pub returns-then-read32-ne-PT_LOAD : goal.returns-then-read32-ne-PT_LOAD
 unfolding holds_at holds header_at
 returns-then-read32-ne-PT_LOAD c = rw (← c.read32.ensures, ne_eqb _ _ c.if-read32-ne-PT_LOAD.true)
 
-pub returns-then-write : goal.returns-then-write
+pub returns-then-read32-ne1 : goal.returns-then-read32-ne1
 unfolding holds_at holds header_at
-returns-then-write c =
-    rw (
-      c.both.ensures,
-      c.holds_range-held.ensures,
-      c.read32-then-write.ensures,
-      c.if-write.true,
-      c.read64-2.ensures,
-      c.read64.ensures,
-      ← c.read32.ensures,
-      eq-eqb _ _ c.if-read32-ne-PT_LOAD.false,
-    )
+returns-then-read32-ne1 c = ?
 
 pub returns : goal.returns
 unfolding holds_at holds header_at
-returns c =
-    rw (
-      c.holds_range-held.ensures,
-      c.if-write.false,
-      c.read64-2.ensures,
-      c.read64.ensures,
-      ← c.read32.ensures,
-      eq-eqb _ _ c.if-read32-ne-PT_LOAD.false,
-    )
+returns c = ?

@@ -7,7 +7,7 @@ use Prim.Native.Nat.{◌≤◌, ◌-◌}
 use Rattle.segments.proofs.loads_end_within.Given as goal
 
 abbrev pub invariant-loop-i : goal.invariant-loop-i
-invariant-loop-i l = (l.i ≤ l.count) × (l.fits ≡ leb (end_before l.f l.h l.i) l.n)
+invariant-loop-i l = (l.i ≤ l.h.count) × (l.fits ≡ leb (end_before l.f l.h l.i) l.n)
 
 abbrev pub decreases-loop-i : goal.decreases-loop-i
-decreases-loop-i l = l.count - l.i
+decreases-loop-i l = l.h.count - l.i
