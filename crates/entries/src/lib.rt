@@ -5,12 +5,12 @@ ghost use Rattle.std.specs.Prelude.{◌≡◌, ◌<◌};
 ghost use Rattle.rules.specs.First.{faultless, some_below};
 ghost use Rattle.rules.specs.Dynamic.{tag_at, value_at, known_tags, row_at, allows, row_of, tag_before, bad_entry, has_tag};
 ghost use Rattle.rules.specs.Dynamic.{partnerless, entries_check, entry_of};
-ghost use Rattle.rules.specs.Answers.{of_checked};
+ghost use Rattle.rules.specs.Answers.{of_result};
 
 use rules::{
-    Allowed, Checked, DT_JMPREL, DT_MEMTAG_GLOBALS, DT_MEMTAG_GLOBALSSZ, DT_MEMTAG_HEAP,
-    DT_MEMTAG_MODE, DT_MEMTAG_STACK, DT_REL, DT_RELA, DT_RELAENT, DT_RELASZ, DT_RELR, DT_RELRENT,
-    DT_RELRSZ, DT_SYMENT, DT_SYMTAB, Dynamic, Entry, Known, Refusal,
+    Allowed, DT_JMPREL, DT_MEMTAG_GLOBALS, DT_MEMTAG_GLOBALSSZ, DT_MEMTAG_HEAP, DT_MEMTAG_MODE,
+    DT_MEMTAG_STACK, DT_REL, DT_RELA, DT_RELAENT, DT_RELASZ, DT_RELR, DT_RELRENT, DT_RELRSZ,
+    DT_SYMENT, DT_SYMTAB, Dynamic, Known, Reason, Refusal,
 };
 
 const ROWS: usize = 15;
@@ -26,7 +26,7 @@ const KNOWN: [Known; 15] = [
     Known {
         tag: DT_SYMENT,
         group: DT_SYMTAB,
-        allowed: Allowed::Exactly24,
+        allowed: Allowed::Exactly(24),
     },
     Known {
         tag: DT_RELA,
@@ -36,12 +36,12 @@ const KNOWN: [Known; 15] = [
     Known {
         tag: DT_RELASZ,
         group: DT_RELA,
-        allowed: Allowed::Multiple24,
+        allowed: Allowed::Multiple(24),
     },
     Known {
         tag: DT_RELAENT,
         group: DT_RELA,
-        allowed: Allowed::Exactly24,
+        allowed: Allowed::Exactly(24),
     },
     Known {
         tag: DT_REL,
@@ -61,12 +61,12 @@ const KNOWN: [Known; 15] = [
     Known {
         tag: DT_RELRSZ,
         group: DT_RELR,
-        allowed: Allowed::Multiple8,
+        allowed: Allowed::Multiple(8),
     },
     Known {
         tag: DT_RELRENT,
         group: DT_RELR,
-        allowed: Allowed::Exactly8,
+        allowed: Allowed::Exactly(8),
     },
     Known {
         tag: DT_MEMTAG_MODE,
@@ -107,10 +107,8 @@ fn is_allowed(a: Allowed, v: u64) -> bool
 {
     match a {
         Allowed::Any => true,
-        Allowed::Exactly24 => v == 24,
-        Allowed::Multiple24 => v % 24 == 0,
-        Allowed::Exactly8 => v == 8,
-        Allowed::Multiple8 => v % 8 == 0,
+        Allowed::Exactly(n) => v == n,
+        Allowed::Multiple(n) => v.is_multiple_of(n),
         Allowed::Flag => v < 2,
         Allowed::Never => false,
     }
@@ -121,8 +119,7 @@ fn row_of(tag: u64) -> usize
     ensures { result ≡ row_of known_tags tag }
 {
     for r in 0..ROWS {
-        let k = row_at(r);
-        if k.tag == tag {
+        if row_at(r).tag == tag {
             return r;
         }
     }
@@ -162,10 +159,7 @@ fn is_bad_entry(f: &[u8], d: Dynamic, i: u32) -> bool
     if ROWS <= r {
         return false;
     }
-    let k = row_at(r);
-    let allowed = k.allowed;
-    let value = value_at(f, d, i);
-    if is_allowed(allowed, value) {
+    if is_allowed(row_at(r).allowed, value_at(f, d, i)) {
         return tag_before(f, d, tag, i) < i;
     }
     true
@@ -175,8 +169,7 @@ fn is_bad_entry(f: &[u8], d: Dynamic, i: u32) -> bool
 fn has_tag(f: &[u8], d: Dynamic, tag: u64) -> bool
     ensures { result ≡ has_tag f.now d tag }
 {
-    let n = d.entries;
-    tag_before(f, d, tag, n) < n
+    tag_before(f, d, tag, d.entries) < d.entries
 }
 
 // A row's tag is there and its group's first is not, or the other way round.
@@ -198,19 +191,15 @@ fn is_partnerless(f: &[u8], d: Dynamic, r: usize) -> bool
 }
 
 // Check 6: the entries, refused at the first bad one.
-fn check_each(f: &[u8], d: Dynamic) -> Checked
-    ensures { of_checked result ≡ faultless 6 (bad_entry known_tags f.now d) d.entries }
+fn check_each(f: &[u8], d: Dynamic) -> Result<(), Refusal>
+    ensures { of_result result ≡ faultless 6 (bad_entry known_tags f.now d) d.entries }
 {
-    let n = d.entries;
-    for i in 0..n {
+    for i in 0..d.entries {
         if is_bad_entry(f, d, i) {
-            return Checked::Refused(Refusal {
-                number: 6,
-                position: i as u64,
-            });
+            return Err(Reason::Entry.at(i as u64));
         }
     }
-    Checked::Passed
+    Ok(())
 }
 
 // Check 6: a partner is missing.
@@ -226,30 +215,23 @@ fn lacks_partner(f: &[u8], d: Dynamic) -> bool
 }
 
 // Check 6: bad or repeated entries; then a partner missing.
-pub fn check_entries(f: &[u8], d: Dynamic) -> Checked
-    ensures { of_checked result ≡ entries_check known_tags f.now d }
+pub fn check_entries(f: &[u8], d: Dynamic) -> Result<(), Refusal>
+    ensures { of_result result ≡ entries_check known_tags f.now d }
 {
-    let each = check_each(f, d);
-    let Checked::Passed = each else {
-        return each;
-    };
+    check_each(f, d)?;
     if lacks_partner(f, d) {
-        return Checked::Refused(Refusal {
-            number: 6,
-            position: d.entries as u64,
-        });
+        return Err(Reason::Entry.at(d.entries as u64));
     }
-    Checked::Passed
+    Ok(())
 }
 
 // The value of a tag's entry.
-pub fn entry_of(f: &[u8], d: Dynamic, tag: u64) -> Entry
+pub fn entry_of(f: &[u8], d: Dynamic, tag: u64) -> Option<u64>
     ensures { result ≡ entry_of f.now d tag }
 {
-    let n = d.entries;
-    let i = tag_before(f, d, tag, n);
-    if i < n {
-        return Entry::Value(value_at(f, d, i));
+    let i = tag_before(f, d, tag, d.entries);
+    if i < d.entries {
+        return Some(value_at(f, d, i));
     }
-    Entry::Absent
+    None
 }
