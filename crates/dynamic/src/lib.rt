@@ -71,14 +71,15 @@ fn dynamic_at(f: &[u8], i: u32, size: u64, backing: Option<u32>) -> Result<Dynam
     let Some(at) = backing else {
         return Err(Reason::Dynamic.at(i as u64));
     };
-    if is_good_size(size) {
-        let n = (size / ENTRY_BYTES) as u32;
-        let entries = null_entry(f, at, n);
-        if entries < n {
-            return Ok(Dynamic { at, entries });
-        }
+    if !is_good_size(size) {
+        return Err(Reason::Dynamic.at(i as u64));
     }
-    Err(Reason::Dynamic.at(i as u64))
+    let n = (size / ENTRY_BYTES) as u32;
+    let entries = null_entry(f, at, n);
+    if n <= entries {
+        return Err(Reason::Dynamic.at(i as u64));
+    }
+    Ok(Dynamic { at, entries })
 }
 
 // Check 5: the one PT_DYNAMIC. Its contents are those at its vaddr.
