@@ -40,11 +40,10 @@ pub fn fill_at(m: &mut [u8], at: usize, count: usize, v: u8)
 pub fn put64(m: &mut [u8], at: usize, w: u64)
     ensures { m.new ≡ put_word m.old at w }
 {
-    let bytes = w.to_le_bytes();
     if at <= m.len() && WORD_BYTES <= m.len() - at {
         let end = at + WORD_BYTES;
-        m[at..end].copy_from_slice(&bytes);
+        m[at..end].copy_from_slice(&w.to_le_bytes());
         return;
     }
-    put_bytes(m, at, &bytes);
+    put_bytes(m, at, &w.to_le_bytes());
 }

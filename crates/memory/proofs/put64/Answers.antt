@@ -11,9 +11,9 @@ pub returns-then-m-at-ge-WORD_BYTES : goal.returns-then-m-at-ge-WORD_BYTES
 unfolding put_word
 returns-then-m-at-ge-WORD_BYTES c =
     let a = c.args in
-    let s = c.copy_from_slice.ensures.after ∙ c.to_le_bytes-bytes.ensures ∙ word_bytes a.w in
+    let s = c.copy_from_slice.ensures.after ∙ c.to_le_bytes.ensures ∙ word_bytes a.w in
     rw s (part_put a.at 8 (a.at + 8 - a.at) a.m.now _ (omega arith) refl (omega arith))
 
 pub returns : goal.returns
 unfolding put_word
-returns c = rw (c.put_bytes.ensures, c.to_le_bytes-bytes.ensures, word_bytes c.args.w)
+returns c = rw (c.put_bytes.ensures, c.to_le_bytes-2.ensures, word_bytes c.args.w)
