@@ -9,19 +9,12 @@ use lib.ListN.{length}
 use Rattle.rules.specs.Relocations.{place_at, live}
 use Rattle.rules.specs.declared.Module.{Module}
 use Rattle.laws.proofs.Items.{packed-live}
-use Rattle.places.specs.Ahead.{ahead, Standing, Next, Reached, Comes}
+use Rattle.places.specs.Ahead.{Next, Reached, Comes}
 use Rattle.places.specs.declared.Run.{Run}
 use Rattle.places.proofs.Laws.{standing_at}
-use Rattle.places.proofs.ItemLaws.{reached_start, reached_more, come_next}
+use Rattle.places.proofs.ItemLaws.{reached_start, come_next}
 use Rattle.apart.specs.Apart.{Met, Spread, Within, Walkable}
 use Rattle.apart.proofs.Laws.{spread_next, met_packed}
-
--- among items that can be walked over there is a next packed place
-pub walkable_more : (f : List ℕ) (m : Module) (n : ℕ) (run : Run) (i : ℕ) → Walkable f m n → m.relocations.entries ≤ i → i < n
-    → Reached f m run (i - m.relocations.entries) → Standing f m.packed run × (0 < length (ahead f m.packed run))
-walkable_more f m n run i walkable behind l s =
-    let few = walkable.few in
-    (s.standing, reached_more f m run run (i - m.relocations.entries) s walkable.counted (omega arith))
 
 module _ (f : List ℕ) (m : Module) (lo n : ℕ) where
   -- before item i: the items below it are told apart, the map has their words, and the run stands before it
