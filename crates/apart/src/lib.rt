@@ -32,9 +32,6 @@ const MIDDLE: u64 = 64 * (MIDDLE_MAP as u64);
 
 const LARGE: u64 = 64 * (LARGE_MAP as u64);
 
-// A map reaches so many times what the next smaller one does.
-const STEP: u64 = 16;
-
 // Puts the word of a place at a distance from the lowest into the map; whether the place is not told apart from those before.
 fn meet_place(map: &mut [u8], distance: u64) -> bool
     requires { distance < 64 * length map.old }
@@ -105,7 +102,8 @@ fn spread_items(map: &mut [u8], f: &[u8], m: Module, n: u32, lo: u64) -> Option<
     spread_packed(map, f, m, n, lo)
 }
 
-// The same with a map of its own, in a frame of its own.
+// The same with a map of its own. It is not inlined, so that a map is in no frame but its own.
+#[inline(never)]
 fn tell_with<const MAP: usize>(f: &[u8], m: Module, n: u32, lo: u64) -> Option<Told>
     requires { Walkable f.now m n × Within f.now m lo MAP n × (MAP ≤ large_map) }
     ensures { Tells f.now m n result }
@@ -114,37 +112,20 @@ fn tell_with<const MAP: usize>(f: &[u8], m: Module, n: u32, lo: u64) -> Option<T
     spread_items(&mut map, f, m, n, lo)
 }
 
-// The same with the smallest map that reaches them, where one of a reach does. It calls itself so that the larger maps are not in the frames
-// of its callers.
-fn apart_within(f: &[u8], m: Module, n: u32, low: u64, top: u64, reach: u64) -> Option<Told>
-    requires { Walkable f.now m n × Bounded f.now m n low top × (low ≤ top) × (top - low < reach) × (reach ≤ 64 * large_map) }
-    ensures { Tells f.now m n result }
-{
-    if reach <= SMALL {
-        return tell_with::<SMALL_MAP>(f, m, n, low);
-    }
-    if top - low < reach / STEP {
-        return apart_within(f, m, n, low, top, reach / STEP);
-    }
-    if reach <= MIDDLE {
-        return tell_with::<MIDDLE_MAP>(f, m, n, low);
-    }
-    tell_with::<LARGE_MAP>(f, m, n, low)
-}
-
-// The first of n items, whose places are from low to top, that is not told apart; item 0 at low where they are too far apart for every map.
+// The first of n items, whose places are from low to top, that is not told apart: with the smallest map that reaches them. Where none does,
+// it is item 0, at low.
 pub fn tell_apart(f: &[u8], m: Module, n: u32, low: u64, top: u64) -> Option<Told>
     requires { Walkable f.now m n × Bounded f.now m n low top × (low ≤ top) }
     ensures { Tells f.now m n result }
 {
-    if top - low < LARGE {
-        return apart_within(f, m, n, low, top, LARGE);
+    match top - low {
+        0..SMALL => tell_with::<SMALL_MAP>(f, m, n, low),
+        SMALL..MIDDLE => tell_with::<MIDDLE_MAP>(f, m, n, low),
+        MIDDLE..LARGE => tell_with::<LARGE_MAP>(f, m, n, low),
+        _ if n == 0 => None,
+        _ => Some(Told {
+            item: 0,
+            place: low,
+        }),
     }
-    if n == 0 {
-        return None;
-    }
-    Some(Told {
-        item: 0,
-        place: low,
-    })
 }
