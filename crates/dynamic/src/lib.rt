@@ -3,9 +3,9 @@
 
 ghost use Rattle.std.specs.Prelude.{◌≡◌, ◌-◌, ◌≤◌};
 ghost use Rattle.rules.specs.Dynamic.{is_dynamic_at, dynamic_from, is_null_at, null_entry, good_size, dynamic_at, dynamic_of};
-ghost use Rattle.rules.specs.Answers.{of_dynamic};
+ghost use Rattle.rules.specs.Answers.{of_result};
 
-use rules::{Backing, DYNAMIC_LIMIT, Dynamic, DynamicAnswer, Headers, Refusal};
+use rules::{DYNAMIC_LIMIT, Dynamic, Headers, Reason, Refusal};
 
 const PT_DYNAMIC: u32 = 2;
 
@@ -65,54 +65,36 @@ fn is_good_size(size: u64) -> bool
 }
 
 // Check 5, of a PT_DYNAMIC whose contents are backed there in the file.
-fn dynamic_at(f: &[u8], i: u32, size: u64, backing: Backing) -> DynamicAnswer
-    ensures { of_dynamic result ≡ dynamic_at f.now i size backing }
+fn dynamic_at(f: &[u8], i: u32, size: u64, backing: Option<u32>) -> Result<Dynamic, Refusal>
+    ensures { of_result result ≡ dynamic_at f.now i size backing }
 {
-    let Backing::At(at) = backing else {
-        return DynamicAnswer::Refused(Refusal {
-            number: 5,
-            position: i as u64,
-        });
+    let Some(at) = backing else {
+        return Err(Reason::Dynamic.at(i as u64));
     };
-    if is_good_size(size) {
-        let n = (size / ENTRY_BYTES) as u32;
-        let entries = null_entry(f, at, n);
-        if entries < n {
-            return DynamicAnswer::Found(Dynamic { at, entries });
-        }
-        return DynamicAnswer::Refused(Refusal {
-            number: 5,
-            position: i as u64,
-        });
+    if !is_good_size(size) {
+        return Err(Reason::Dynamic.at(i as u64));
     }
-    DynamicAnswer::Refused(Refusal {
-        number: 5,
-        position: i as u64,
-    })
+    let n = (size / ENTRY_BYTES) as u32;
+    let entries = null_entry(f, at, n);
+    if n <= entries {
+        return Err(Reason::Dynamic.at(i as u64));
+    }
+    Ok(Dynamic { at, entries })
 }
 
 // Check 5: the one PT_DYNAMIC. Its contents are those at its vaddr.
-pub fn find_dynamic(f: &[u8], h: Headers) -> DynamicAnswer
-    ensures { of_dynamic result ≡ dynamic_of f.now h }
+pub fn find_dynamic(f: &[u8], h: Headers) -> Result<Dynamic, Refusal>
+    ensures { of_result result ≡ dynamic_of f.now h }
 {
-    let count = h.count;
     let one = dynamic_from(f, h, 0);
-    if count <= one {
-        return DynamicAnswer::Refused(Refusal {
-            number: 5,
-            position: count as u64,
-        });
+    if h.count <= one {
+        return Err(Reason::Dynamic.at(h.count as u64));
     }
     let two = dynamic_from(f, h, one + 1);
-    if two < count {
-        return DynamicAnswer::Refused(Refusal {
-            number: 5,
-            position: two as u64,
-        });
+    if two < h.count {
+        return Err(Reason::Dynamic.at(two as u64));
     }
     let s = segments::header_at(f, h, one);
-    let vaddr = s.vaddr;
-    let filesz = s.filesz;
-    let backing = segments::backing_of(f, h, vaddr, filesz);
-    dynamic_at(f, one, filesz, backing)
+    let backing = segments::backing_of(f, h, s.vaddr, s.filesz);
+    dynamic_at(f, one, s.filesz, backing)
 }

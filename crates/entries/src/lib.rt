@@ -1,19 +1,18 @@
 // Check 6: the dynamic entries.
 #![tactic(auto)]
 
-ghost use Rattle.std.specs.Prelude.{◌≡◌, ◌<◌};
+ghost use Rattle.std.specs.Prelude.{◌≡◌, ltb};
+ghost use Rattle.std.specs.Bool.{then_some};
 ghost use Rattle.rules.specs.First.{faultless, some_below};
-ghost use Rattle.rules.specs.Dynamic.{tag_at, value_at, known_tags, row_at, allows, row_of, tag_before, bad_entry, has_tag};
+ghost use Rattle.rules.specs.Dynamic.{tag_at, value_at, known_tags, row_at, allows, row_of, tag_before, bad_entry, has_tag, differ};
 ghost use Rattle.rules.specs.Dynamic.{partnerless, entries_check, entry_of};
-ghost use Rattle.rules.specs.Answers.{of_checked};
+ghost use Rattle.rules.specs.Answers.{of_result};
 
 use rules::{
-    Allowed, Checked, DT_JMPREL, DT_MEMTAG_GLOBALS, DT_MEMTAG_GLOBALSSZ, DT_MEMTAG_HEAP,
-    DT_MEMTAG_MODE, DT_MEMTAG_STACK, DT_REL, DT_RELA, DT_RELAENT, DT_RELASZ, DT_RELR, DT_RELRENT,
-    DT_RELRSZ, DT_SYMENT, DT_SYMTAB, Dynamic, Entry, Known, Refusal,
+    Allowed, DT_JMPREL, DT_MEMTAG_GLOBALS, DT_MEMTAG_GLOBALSSZ, DT_MEMTAG_HEAP, DT_MEMTAG_MODE,
+    DT_MEMTAG_STACK, DT_REL, DT_RELA, DT_RELAENT, DT_RELASZ, DT_RELR, DT_RELRENT, DT_RELRSZ,
+    DT_SYMENT, DT_SYMTAB, Dynamic, Known, Reason, Refusal,
 };
-
-const ROWS: usize = 15;
 
 // The tags that are known, with their groups and the values that are allowed. Rows of one group are partners; a group goes by its
 // first tag.
@@ -26,7 +25,7 @@ const KNOWN: [Known; 15] = [
     Known {
         tag: DT_SYMENT,
         group: DT_SYMTAB,
-        allowed: Allowed::Exactly24,
+        allowed: Allowed::Exactly(24),
     },
     Known {
         tag: DT_RELA,
@@ -36,12 +35,12 @@ const KNOWN: [Known; 15] = [
     Known {
         tag: DT_RELASZ,
         group: DT_RELA,
-        allowed: Allowed::Multiple24,
+        allowed: Allowed::Multiple(24),
     },
     Known {
         tag: DT_RELAENT,
         group: DT_RELA,
-        allowed: Allowed::Exactly24,
+        allowed: Allowed::Exactly(24),
     },
     Known {
         tag: DT_REL,
@@ -61,12 +60,12 @@ const KNOWN: [Known; 15] = [
     Known {
         tag: DT_RELRSZ,
         group: DT_RELR,
-        allowed: Allowed::Multiple8,
+        allowed: Allowed::Multiple(8),
     },
     Known {
         tag: DT_RELRENT,
         group: DT_RELR,
-        allowed: Allowed::Exactly8,
+        allowed: Allowed::Exactly(8),
     },
     Known {
         tag: DT_MEMTAG_MODE,
@@ -95,38 +94,29 @@ const KNOWN: [Known; 15] = [
     },
 ];
 
-fn row_at(r: usize) -> Known
-    requires { r < 15 }
-    ensures { result ≡ row_at known_tags r }
-{
-    KNOWN[r]
-}
-
+// A value is allowed by a row.
 fn is_allowed(a: Allowed, v: u64) -> bool
     ensures { result ≡ allows a v }
 {
     match a {
         Allowed::Any => true,
-        Allowed::Exactly24 => v == 24,
-        Allowed::Multiple24 => v % 24 == 0,
-        Allowed::Exactly8 => v == 8,
-        Allowed::Multiple8 => v % 8 == 0,
+        Allowed::Exactly(n) => v == n,
+        Allowed::Multiple(n) => v.is_multiple_of(n),
         Allowed::Flag => v < 2,
         Allowed::Never => false,
     }
 }
 
-// The row of a tag, or how many rows there are.
-fn row_of(tag: u64) -> usize
-    ensures { result ≡ row_of known_tags tag }
+// The row of a tag, where it is known.
+fn find_row(tag: u64) -> Option<Known>
+    ensures { result ≡ then_some (ltb (row_of known_tags tag) 15) (row_at known_tags (row_of known_tags tag)) }
 {
-    for r in 0..ROWS {
-        let k = row_at(r);
-        if k.tag == tag {
-            return r;
+    for &row in &KNOWN {
+        if row.tag == tag {
+            return Some(row);
         }
     }
-    ROWS
+    None
 }
 
 fn tag_at(f: &[u8], d: Dynamic, i: u32) -> u64
@@ -141,16 +131,16 @@ fn value_at(f: &[u8], d: Dynamic, i: u32) -> u64
     reads::read64(f, d.at as usize + 16 * (i as usize) + 8)
 }
 
-// The first of the first n entries that has a tag, or n.
-fn tag_before(f: &[u8], d: Dynamic, tag: u64, n: u32) -> u32
-    ensures { result ≡ tag_before f.now d tag n }
+// The first of the first n entries that has a tag.
+fn find_tag(f: &[u8], d: Dynamic, tag: u64, n: u32) -> Option<u32>
+    ensures { result ≡ then_some (ltb (tag_before f.now d tag n) n) (tag_before f.now d tag n) }
 {
     for i in 0..n {
         if tag_at(f, d, i) == tag {
-            return i;
+            return Some(i);
         }
     }
-    n
+    None
 }
 
 // Check 6, of one entry: its value is not allowed, or an earlier entry has its tag.
@@ -158,15 +148,11 @@ fn is_bad_entry(f: &[u8], d: Dynamic, i: u32) -> bool
     ensures { result ≡ bad_entry known_tags f.now d i }
 {
     let tag = tag_at(f, d, i);
-    let r = row_of(tag);
-    if ROWS <= r {
+    let Some(row) = find_row(tag) else {
         return false;
-    }
-    let k = row_at(r);
-    let allowed = k.allowed;
-    let value = value_at(f, d, i);
-    if is_allowed(allowed, value) {
-        return tag_before(f, d, tag, i) < i;
+    };
+    if is_allowed(row.allowed, value_at(f, d, i)) {
+        return find_tag(f, d, tag, i).is_some();
     }
     true
 }
@@ -175,50 +161,34 @@ fn is_bad_entry(f: &[u8], d: Dynamic, i: u32) -> bool
 fn has_tag(f: &[u8], d: Dynamic, tag: u64) -> bool
     ensures { result ≡ has_tag f.now d tag }
 {
-    let n = d.entries;
-    tag_before(f, d, tag, n) < n
+    find_tag(f, d, tag, d.entries).is_some()
 }
 
 // A row's tag is there and its group's first is not, or the other way round.
-fn is_partnerless(f: &[u8], d: Dynamic, r: usize) -> bool
-    requires { r < 15 }
-    ensures { result ≡ partnerless known_tags f.now d r }
+fn is_partnerless(f: &[u8], d: Dynamic, row: Known) -> bool
+    ensures { result ≡ differ (has_tag f.now d row.tag) (has_tag f.now d row.group) }
 {
-    let k = row_at(r);
-    let tag = k.tag;
-    let group = k.group;
-    if tag == group {
-        return false;
-    }
-    let partner = has_tag(f, d, group);
-    if has_tag(f, d, tag) {
-        return !partner;
-    }
-    partner
+    has_tag(f, d, row.tag) != has_tag(f, d, row.group)
 }
 
 // Check 6: the entries, refused at the first bad one.
-fn check_each(f: &[u8], d: Dynamic) -> Checked
-    ensures { of_checked result ≡ faultless 6 (bad_entry known_tags f.now d) d.entries }
+fn check_each(f: &[u8], d: Dynamic) -> Result<(), Refusal>
+    ensures { of_result result ≡ faultless 6 (bad_entry known_tags f.now d) d.entries }
 {
-    let n = d.entries;
-    for i in 0..n {
+    for i in 0..d.entries {
         if is_bad_entry(f, d, i) {
-            return Checked::Refused(Refusal {
-                number: 6,
-                position: i as u64,
-            });
+            return Err(Reason::Entry.at(i as u64));
         }
     }
-    Checked::Passed
+    Ok(())
 }
 
 // Check 6: a partner is missing.
 fn lacks_partner(f: &[u8], d: Dynamic) -> bool
     ensures { result ≡ some_below (partnerless known_tags f.now d) 15 }
 {
-    for r in 0..ROWS {
-        if is_partnerless(f, d, r) {
+    for &row in &KNOWN {
+        if is_partnerless(f, d, row) {
             return true;
         }
     }
@@ -226,30 +196,20 @@ fn lacks_partner(f: &[u8], d: Dynamic) -> bool
 }
 
 // Check 6: bad or repeated entries; then a partner missing.
-pub fn check_entries(f: &[u8], d: Dynamic) -> Checked
-    ensures { of_checked result ≡ entries_check known_tags f.now d }
+pub fn check_entries(f: &[u8], d: Dynamic) -> Result<(), Refusal>
+    ensures { of_result result ≡ entries_check known_tags f.now d }
 {
-    let each = check_each(f, d);
-    let Checked::Passed = each else {
-        return each;
-    };
+    check_each(f, d)?;
     if lacks_partner(f, d) {
-        return Checked::Refused(Refusal {
-            number: 6,
-            position: d.entries as u64,
-        });
+        return Err(Reason::Entry.at(d.entries as u64));
     }
-    Checked::Passed
+    Ok(())
 }
 
 // The value of a tag's entry.
-pub fn entry_of(f: &[u8], d: Dynamic, tag: u64) -> Entry
+pub fn entry_of(f: &[u8], d: Dynamic, tag: u64) -> Option<u64>
     ensures { result ≡ entry_of f.now d tag }
 {
-    let n = d.entries;
-    let i = tag_before(f, d, tag, n);
-    if i < n {
-        return Entry::Value(value_at(f, d, i));
-    }
-    Entry::Absent
+    let i = find_tag(f, d, tag, d.entries)?;
+    Some(value_at(f, d, i))
 }

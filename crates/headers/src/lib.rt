@@ -4,52 +4,36 @@
 ghost use Rattle.std.specs.Prelude.{◌≡◌, ◌<◌, get_or};
 ghost use Rattle.rules.specs.Headers.{size_check, identification, identification_check, good_header, header_check, header_checks, headers_of};
 ghost use Rattle.rules.specs.Checks.{runs};
-ghost use Rattle.rules.specs.Answers.{of_checked, of_headers};
+ghost use Rattle.rules.specs.Answers.{of_result};
 
-use rules::{
-    Checked, FILE_LEAST, FILE_LIMIT, HEADER_LIMIT, Headers, HeadersAnswer, NEVER, Refusal,
-};
+use rules::{FILE_LEAST, FILE_LIMIT, HEADER_LIMIT, Headers, Reason, Refusal};
 
+// Bytes of a program header.
 const HEADER_BYTES: u64 = 56;
 
 const IDENTIFICATION: [u8; 7] = [0x7f, 0x45, 0x4c, 0x46, 2, 1, 1];
 
-fn identification_at(i: usize) -> u8
-    requires { i < 7 }
-    ensures { result ≡ get_or identification i 0 }
-{
-    IDENTIFICATION[i]
-}
-
 // Check 1: the file's length.
-fn check_size(f: &[u8]) -> Checked
-    ensures { of_checked result ≡ size_check f.now }
+fn check_size(f: &[u8]) -> Result<(), Refusal>
+    ensures { of_result result ≡ size_check f.now }
 {
     let length = f.len() as u64;
-    if FILE_LEAST <= length {
-        if length <= FILE_LIMIT {
-            return Checked::Passed;
-        }
+    if FILE_LEAST <= length && length <= FILE_LIMIT {
+        return Ok(());
     }
-    Checked::Refused(Refusal {
-        number: 1,
-        position: 0,
-    })
+    Err(Reason::Length.at(0))
 }
 
 // Check 2: the identification, refused at the first wrong byte.
-fn check_identification(f: &[u8]) -> Checked
-    ensures { of_checked result ≡ identification_check f.now }
+fn check_identification(f: &[u8]) -> Result<(), Refusal>
+    ensures { of_result result ≡ identification_check f.now }
 {
-    for i in 0..7 {
-        if reads::byte_at(f, i) != identification_at(i) {
-            return Checked::Refused(Refusal {
-                number: 2,
-                position: i as u64,
-            });
+    for (i, &byte) in IDENTIFICATION.iter().enumerate() {
+        if reads::byte_at(f, i) != byte {
+            return Err(Reason::Identification.at(i as u64));
         }
     }
-    Checked::Passed
+    Ok(())
 }
 
 // Check 3, of the header's fields.
@@ -86,8 +70,8 @@ fn is_good_header(
 }
 
 // Check 3: the header.
-fn check_header(f: &[u8]) -> Checked
-    ensures { of_checked result ≡ header_check f.now }
+fn check_header(f: &[u8]) -> Result<(), Refusal>
+    ensures { of_result result ≡ header_check f.now }
 {
     let fine = is_good_header(
         f.len() as u64,
@@ -99,41 +83,26 @@ fn check_header(f: &[u8]) -> Checked
         reads::read64(f, 32),
     );
     if fine {
-        return Checked::Passed;
+        return Ok(());
     }
-    Checked::Refused(Refusal {
-        number: 3,
-        position: 0,
-    })
+    Err(Reason::Header.at(0))
 }
 
 // Checks 1 to 3 in their order.
-fn check_file(f: &[u8]) -> Checked
-    ensures { of_checked result ≡ runs (header_checks f.now) }
+fn check_file(f: &[u8]) -> Result<(), Refusal>
+    ensures { of_result result ≡ runs (header_checks f.now) }
 {
-    let size = check_size(f);
-    let Checked::Passed = size else {
-        return size;
-    };
-    let identified = check_identification(f);
-    let Checked::Passed = identified else {
-        return identified;
-    };
+    check_size(f)?;
+    check_identification(f)?;
     check_header(f)
 }
 
 // Checks 1 to 3, and where the program headers are.
-pub fn read_headers(f: &[u8]) -> HeadersAnswer
-    ensures { of_headers result ≡ headers_of f.now }
+pub fn read_headers(f: &[u8]) -> Result<Headers, Refusal>
+    ensures { of_result result ≡ headers_of f.now }
 {
-    let file = check_file(f);
-    let Checked::Passed = file else {
-        let Checked::Refused(r) = file else {
-            return HeadersAnswer::Refused(NEVER);
-        };
-        return HeadersAnswer::Refused(r);
-    };
-    HeadersAnswer::Found(Headers {
+    check_file(f)?;
+    Ok(Headers {
         table: reads::read64(f, 32) as u32,
         count: reads::read16(f, 56) as u32,
     })

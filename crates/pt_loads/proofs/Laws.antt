@@ -1,29 +1,68 @@
 -- Powers of two from the highest down, and where a good PT_LOAD ends.
 -- Assumes nothing.
-use Prim.Native.Nat.{ℕ, zero, suc, ◌+◌, ◌-◌, ◌/◌, ◌^◌, ◌≤◌, ◌<◌}
-use mathlib.Core.Path.{◌≡◌, refl}
+use Prim.Native.Nat.{ℕ, zero, suc, ◌+◌, ◌*◌, ◌/◌, ◌%◌, ◌^◌, ◌≤◌, ◌<◌}
+use mathlib.Core.Path.{◌≡◌, refl, sym, ap, ◌∙◌}
 use mathlib.Core.Bool.{Bool, true, false, not, ◌&&◌, ◌||◌}
 use native.Mathlib.Omega.{arith}
-use native.Mathlib.Nat.{pow-suc, mul-div_cancel}
-use native.Mathlib.Numerals.{sub-one}
+use native.Mathlib.Nat.{pow-suc}
+use lib.Count.{ones, ones_step}
+use Rattle.std.proofs.lemmas.Nat.{zero_from_ones}
 use lib.Dec.{eqb}
-use borrow.Author.Tests.{leb-true}
+use borrow.Author.Tests.{leb-true, ne_eqb, eq-eqb, eqb-true, eqb-false}
 use Rattle.rules.specs.Limits.{memory_limit}
 use Rattle.rules.specs.Segments.{power_below, good_load, is_load}
 use Rattle.rules.specs.declared.Segment.{Segment}
 use Rattle.rules.proofs.OutcomeLaws.{never, and_left, and_right}
 
-pub half_power : (m : ℕ) → 2 ^ suc m / 2 ≡ 2 ^ m
-half_power m = rw pow-suc (mul-div_cancel (2 ^ m) (omega arith))
+eqb_iff : (a b x y : ℕ) → (a ≡ b → x ≡ y) → (x ≡ y → a ≡ b) → eqb a b ≡ eqb x y
+eqb_iff a b x y f g = go (eqb a b) refl
+  where
+    go : (t : Bool) → eqb a b ≡ t → t ≡ eqb x y
+    go true e = sym (eq-eqb x y (f (eqb-true a b e)))
+    go false e = sym (ne_eqb x y (λ q. eqb-false a b e (g q)))
 
-pub power_step : (n a : ℕ) → 0 < n → power_below n a ≡ (eqb a (2 ^ n / 2) || power_below (n - 1) a)
+or_false : (b : Bool) → (b || false) ≡ b
+or_false true = refl
+or_false false = refl
+
+-- a power of two has one bit set: by halves
+power_even : (n b : ℕ) → power_below (suc n) (2 * b) ≡ power_below n b
 unfolding power_below
-power_step zero a h = absurd (omega arith)
-power_step (suc m) a h = rw (half_power m, sub-one)
+power_even zero b = rw (ne_eqb (2 * b) 1 (λ e. omega arith))
+power_even (suc n) b = let e : eqb (2 * b) (2 ^ suc n) ≡ eqb b (2 ^ n) = eqb_iff _ _ _ _ (λ q. omega (arith, pow-suc 2 n)) (λ q. omega (arith, pow-suc 2 n)) in rw (e, power_even n b)
 
-pub half_less : (n p : ℕ) → 0 < n → p ≡ 2 ^ n / 2 → p / 2 ≡ 2 ^ (n - 1) / 2
-half_less zero p h e = absurd (omega arith)
-half_less (suc m) p h e = rw (e, half_power m, sub-one)
+power_odd : (n b : ℕ) → power_below (suc n) (2 * b + 1) ≡ eqb b 0
+unfolding power_below
+power_odd zero b = rw (eqb_iff (2 * b + 1) 1 b 0 (λ q. omega arith) (λ q. omega arith)) (or_false _)
+power_odd (suc n) b = rw (ne_eqb (2 * b + 1) (2 ^ suc n) (λ q. omega (arith, pow-suc 2 n)), power_odd n b)
+
+ones_even : (n a : ℕ) → a % 2 ≡ 0 → eqb (ones (a / 2)) 1 ≡ power_below n (a / 2) → eqb (ones a) 1 ≡ power_below (suc n) a
+ones_even n a e h =
+    let half : a ≡ 2 * (a / 2) = omega arith in
+    let s : ones a ≡ ones (a / 2) = omega (arith, ones_step a) in
+    rw (s, h) (sym (ap (λ (x : ℕ). power_below (suc n) x) half ∙ power_even n (a / 2)))
+
+ones_odd : (n a : ℕ) → a % 2 ≡ 1 → eqb (ones a) 1 ≡ power_below (suc n) a
+unfolding ones
+ones_odd n a e =
+    let half : a ≡ 2 * (a / 2) + 1 = omega arith in
+    let s : ones a ≡ 1 + ones (a / 2) = omega (arith, ones_step a) in
+    let z : eqb (ones a) 1 ≡ eqb (a / 2) 0 =
+    eqb_iff _ _ _ _ (λ q. zero_from_ones (a / 2) (omega arith)) (λ q. let n : ones (a / 2) ≡ 0 = rw q refl in omega arith) in
+    z ∙ sym (ap (λ (x : ℕ). power_below (suc n) x) half ∙ power_odd n (a / 2))
+
+by_parity : (a : ℕ) (P : Type 0) → (a % 2 ≡ 0 → P) → (a % 2 ≡ 1 → P) → P
+by_parity a P f g = go (a % 2) refl
+  where
+    go : (r : ℕ) → a % 2 ≡ r → P
+    go zero e = f e
+    go (suc r) e = g (omega arith)
+
+pub power_ones : (n a : ℕ) → a < 2 ^ n → eqb (ones a) 1 ≡ power_below n a
+unfolding ones power_below
+power_ones zero a l = let z : a ≡ 0 = omega arith in rw z refl
+power_ones (suc n) a l =
+    by_parity a (eqb (ones a) 1 ≡ power_below (suc n) a) (λ e. ones_even n a e (power_ones n (a / 2) (omega (arith, pow-suc 2 n)))) (ones_odd n a)
 
 -- a good PT_LOAD ends inside memory, and so does one that is not bad
 pub good_load_end : (n last : ℕ) (s : Segment) → good_load n last s ≡ true → s.vaddr + s.memsz ≤ memory_limit

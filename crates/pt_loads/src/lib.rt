@@ -3,25 +3,16 @@
 
 ghost use Rattle.std.specs.Prelude.{◌≡◌, false, cond, not, ◌&&◌, ◌+◌};
 ghost use Rattle.rules.specs.Segments.{is_load, power_below, aligned, good_load, loads_check};
-ghost use Rattle.rules.specs.Answers.{of_checked};
+ghost use Rattle.rules.specs.Answers.{of_result};
 
-use rules::{Checked, Headers, MEMORY_LIMIT, Refusal, Segment};
+use rules::{Headers, MEMORY_LIMIT, Reason, Refusal, Segment};
 use segments::PT_LOAD;
 
 // A power of two below 2^64.
 fn is_power(a: u64) -> bool
     ensures { result ≡ power_below 64 a }
 {
-    let mut p: u64 = 9223372036854775808;
-    let mut n: usize = 64;
-    while 0 < n {
-        if a == p {
-            return true;
-        }
-        p = p / 2;
-        n -= 1;
-    }
-    false
+    a.is_power_of_two()
 }
 
 // Check 4's last clause, on alignment.
@@ -41,24 +32,22 @@ fn is_aligned(align: u64, offset: u64, vaddr: u64) -> bool
 fn is_good_load(length: u64, last: u64, s: Segment) -> bool
     ensures { result ≡ good_load length last s }
 {
-    let memsz = s.memsz;
-    let filesz = s.filesz;
-    let vaddr = s.vaddr;
-    let offset = s.offset;
-    let align = s.align;
-    reads::both(
-        memsz != 0,
-        reads::both(
-            filesz <= memsz,
-            reads::both(
-                reads::sum_within(offset, filesz, length),
-                reads::both(
-                    reads::sum_within(vaddr, memsz, MEMORY_LIMIT),
-                    reads::both(last <= vaddr, is_aligned(align, offset, vaddr)),
-                ),
-            ),
-        ),
-    )
+    if s.memsz == 0 {
+        return false;
+    }
+    if s.memsz < s.filesz {
+        return false;
+    }
+    if !reads::sum_within(s.offset, s.filesz, length) {
+        return false;
+    }
+    if !reads::sum_within(s.vaddr, s.memsz, MEMORY_LIMIT) {
+        return false;
+    }
+    if s.vaddr < last {
+        return false;
+    }
+    is_aligned(s.align, s.offset, s.vaddr)
 }
 
 // Check 4, of one header.
@@ -83,21 +72,17 @@ fn end_after(length: u64, last: u64, s: Segment) -> u64
 }
 
 // Check 4: the PT_LOADs, refused at the first bad one.
-pub fn check_loads(f: &[u8], h: Headers) -> Checked
-    ensures { of_checked result ≡ loads_check f.now h }
+pub fn check_loads(f: &[u8], h: Headers) -> Result<(), Refusal>
+    ensures { of_result result ≡ loads_check f.now h }
 {
     let length = f.len() as u64;
-    let count = h.count;
     let mut last: u64 = 0;
-    for i in 0..count {
+    for i in 0..h.count {
         let s = segments::header_at(f, h, i);
         if is_bad_load(length, last, s) {
-            return Checked::Refused(Refusal {
-                number: 4,
-                position: i as u64,
-            });
+            return Err(Reason::Load.at(i as u64));
         }
         last = end_after(length, last, s);
     }
-    Checked::Passed
+    Ok(())
 }

@@ -4,12 +4,11 @@
 ghost use Rattle.std.specs.Prelude.{◌≡◌};
 ghost use Rattle.rules.specs.Dynamic.{entry_of};
 ghost use Rattle.rules.specs.Tables.{or_zero, table_backing, relocations_of, descriptors_of};
-ghost use Rattle.rules.specs.Answers.{of_relocations, of_descriptors};
+ghost use Rattle.rules.specs.Answers.{of_result};
 
 use rules::{
-    Backing, DT_MEMTAG_GLOBALS, DT_MEMTAG_GLOBALSSZ, DT_RELA, DT_RELASZ, Descriptors,
-    DescriptorsAnswer, Dynamic, ENTRY_LIMIT, Entry, Headers, Refusal, Relocations,
-    RelocationsAnswer,
+    DT_MEMTAG_GLOBALS, DT_MEMTAG_GLOBALSSZ, DT_RELA, DT_RELASZ, Descriptors, Dynamic, ENTRY_LIMIT,
+    Headers, Reason, Refusal, Relocations,
 };
 
 // Bytes of a relocation entry.
@@ -19,63 +18,48 @@ const RELA_BYTES: u64 = 24;
 pub fn value_of(f: &[u8], d: Dynamic, tag: u64) -> u64
     ensures { result ≡ or_zero (entry_of f.now d tag) }
 {
-    let entry = entries::entry_of(f, d, tag);
-    match entry {
-        Entry::Absent => 0,
-        Entry::Value(v) => v,
-    }
+    entries::entry_of(f, d, tag).unwrap_or(0)
 }
 
 // Where a table is backed; one of 0 bytes is accepted at any address.
-pub fn table_backing(f: &[u8], h: Headers, address: u64, bytes: u64) -> Backing
+pub fn table_backing(f: &[u8], h: Headers, address: u64, bytes: u64) -> Option<u32>
     ensures { result ≡ table_backing f.now h address bytes }
 {
     if bytes == 0 {
-        return Backing::At(0);
+        return Some(0);
     }
     segments::backing_of(f, h, address, bytes)
 }
 
 // Check 7: the relocation table.
-pub fn find_relocations(f: &[u8], h: Headers, d: Dynamic) -> RelocationsAnswer
-    ensures { of_relocations result ≡ relocations_of f.now h d }
+pub fn find_relocations(f: &[u8], h: Headers, d: Dynamic) -> Result<Relocations, Refusal>
+    ensures { of_result result ≡ relocations_of f.now h d }
 {
     let address = value_of(f, d, DT_RELA);
     let bytes = value_of(f, d, DT_RELASZ);
-    let backing = table_backing(f, h, address, bytes);
-    let Backing::At(at) = backing else {
-        return RelocationsAnswer::Refused(Refusal {
-            number: 7,
-            position: 0,
-        });
+    let Some(at) = table_backing(f, h, address, bytes) else {
+        return Err(Reason::Table.at(0));
     };
     let entries = bytes / RELA_BYTES;
     if (ENTRY_LIMIT as u64) < entries {
-        return RelocationsAnswer::Refused(Refusal {
-            number: 7,
-            position: 0,
-        });
+        return Err(Reason::Table.at(0));
     }
-    RelocationsAnswer::Found(Relocations {
+    Ok(Relocations {
         at,
         entries: entries as u32,
     })
 }
 
 // Check 7: the descriptor table.
-pub fn find_descriptors(f: &[u8], h: Headers, d: Dynamic) -> DescriptorsAnswer
-    ensures { of_descriptors result ≡ descriptors_of f.now h d }
+pub fn find_descriptors(f: &[u8], h: Headers, d: Dynamic) -> Result<Descriptors, Refusal>
+    ensures { of_result result ≡ descriptors_of f.now h d }
 {
     let address = value_of(f, d, DT_MEMTAG_GLOBALS);
     let bytes = value_of(f, d, DT_MEMTAG_GLOBALSSZ);
-    let backing = table_backing(f, h, address, bytes);
-    let Backing::At(at) = backing else {
-        return DescriptorsAnswer::Refused(Refusal {
-            number: 7,
-            position: 1,
-        });
+    let Some(at) = table_backing(f, h, address, bytes) else {
+        return Err(Reason::Table.at(1));
     };
-    DescriptorsAnswer::Found(Descriptors {
+    Ok(Descriptors {
         at,
         bytes: bytes as u32,
     })

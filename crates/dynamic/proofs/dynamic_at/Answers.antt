@@ -1,5 +1,6 @@
 -- The tests in their order; a good size is not above the limit, so the count of entries fits.
 -- Assumes nothing.
+use mathlib.Core.Path.{sym}
 use borrow.Author.Tests.{lt-ltb, le-ltb}
 use Rattle.dynamic.proofs.Laws.{good_size_lem}
 use Rattle.rules.specs.Dynamic.{dynamic_at}
@@ -8,35 +9,28 @@ use Rattle.dynamic.proofs.dynamic_at.Goals as goal
 
 pub returns-in_default : goal.returns-in_default
 unfolding dynamic_at
-returns-in_default c = rw c.in_default.is
+returns-in_default c = rw (c.at.ensures, c.in_default.is)
+
+pub returns-then-not-is_good_size : goal.returns-then-not-is_good_size
+unfolding dynamic_at
+returns-then-not-is_good_size c = rw (c.at-then-not-is_good_size.ensures, c.in-Some.is, ← c.if-not-is_good_size.ensures)
 
 pub overflow_cast-n : goal.overflow_cast-n
 overflow_cast-n c =
-    let h = good_size_lem c.args.size (rw (← c.is_good_size.ensures) c.if-is_good_size.true) in
+    let h = good_size_lem c.args.size (sym c.if-not-is_good_size.ensures) in
     omega arith
 
-pub returns-then-entries-n : goal.returns-then-entries-n
+pub returns-then-n-entries : goal.returns-then-n-entries
 unfolding dynamic_at
-returns-then-entries-n c =
+returns-then-n-entries c =
     rw (
+      c.at-then-n-entries.ensures,
       c.in-Some.is,
-      ← c.is_good_size.ensures,
-      c.if-is_good_size.true,
+      ← c.if-not-is_good_size.ensures,
       ← c.null_entry-entries.ensures,
-      lt-ltb _ _ c.if-entries-n.true,
-    )
-
-pub returns-then-is_good_size : goal.returns-then-is_good_size
-unfolding dynamic_at
-returns-then-is_good_size c =
-    rw (
-      c.in-Some.is,
-      ← c.is_good_size.ensures,
-      c.if-is_good_size.true,
-      ← c.null_entry-entries.ensures,
-      le-ltb _ _ c.if-entries-n.false,
+      le-ltb _ _ c.if-n-entries.true,
     )
 
 pub returns : goal.returns
 unfolding dynamic_at
-returns c = rw (c.in-Some.is, ← c.is_good_size.ensures, c.if-is_good_size.false)
+returns c = rw (c.in-Some.is, ← c.if-not-is_good_size.ensures, ← c.null_entry-entries.ensures, lt-ltb _ _ c.if-n-entries.false)

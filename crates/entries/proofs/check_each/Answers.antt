@@ -15,8 +15,8 @@ returns-then-is_bad_entry c =
     let l = c.loop-i in
     let a = c.args in
     let t = bad_entry known_tags a.f.now a.d in
-    sym (faultless-hit 6 t a.d.entries l.i (l.invariant.1 ∙ first-hit t l.i a.d.entries (omega arith)
-    (rw (← c.is_bad_entry.ensures) c.if-is_bad_entry.true)) (omega arith))
+    rw c.at.ensures (sym (faultless-hit 6 t a.d.entries l.i (l.invariant.1 ∙ first-hit t l.i a.d.entries (omega arith)
+    (rw (← c.is_bad_entry.ensures) c.if-is_bad_entry.true)) (omega arith)))
 
 pub loop-i-preserved : goal.loop-i-preserved
 loop-i-preserved c =

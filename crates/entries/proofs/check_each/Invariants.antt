@@ -7,7 +7,7 @@ use Prim.Native.Nat.{◌≤◌, ◌-◌}
 use Rattle.entries.proofs.check_each.Given as goal
 
 abbrev pub invariant-loop-i : goal.invariant-loop-i
-invariant-loop-i l = (l.i ≤ l.n) × (first (bad_entry known_tags l.f l.d) 0 l.n ≡ first (bad_entry known_tags l.f l.d) l.i (l.n - l.i))
+invariant-loop-i l = (l.i ≤ l.d.entries) × (first (bad_entry known_tags l.f l.d) 0 l.d.entries ≡ first (bad_entry known_tags l.f l.d) l.i (l.d.entries - l.i))
 
 abbrev pub decreases-loop-i : goal.decreases-loop-i
-decreases-loop-i l = l.n - l.i
+decreases-loop-i l = l.d.entries - l.i

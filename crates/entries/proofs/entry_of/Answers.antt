@@ -1,13 +1,13 @@
--- The search stops at the entry, or at the end.
+-- The value of the entry that is found.
 -- Assumes nothing.
-use borrow.Author.Tests.{lt-ltb, le-ltb}
 use Rattle.rules.specs.Dynamic.{entry_of, has_tag}
+use Rattle.entries.proofs.Laws.{then_some-there, then_some-none}
 use Rattle.entries.proofs.entry_of.Goals as goal
 
-pub returns-then-i-n : goal.returns-then-i-n
+pub returns-in_err-i : goal.returns-in_err-i
 unfolding entry_of has_tag
-returns-then-i-n c = rw (c.value_at.ensures, ← c.tag_before-i.ensures, lt-ltb _ _ c.if-i-n.true)
+returns-in_err-i c = rw (c.from_residual.ensures, then_some-none _ _ c.in_err-i.ensures)
 
 pub returns : goal.returns
 unfolding entry_of has_tag
-returns c = rw (← c.tag_before-i.ensures, le-ltb _ _ c.if-i-n.false)
+returns c = let e = then_some-there _ _ _ c.in_ok-i.ensures in rw (c.value_at.ensures, e.0, e.1)

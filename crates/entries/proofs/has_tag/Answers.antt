@@ -1,8 +1,9 @@
--- The search stops before the end.
+-- Some entry is found.
 -- Assumes nothing.
 use Rattle.rules.specs.Dynamic.{has_tag}
+use Rattle.entries.proofs.Laws.{is_some-then_some}
 use Rattle.entries.proofs.has_tag.Goals as goal
 
 pub returns : goal.returns
 unfolding has_tag
-returns c = cc
+returns c = rw (c.is_some.ensures, c.find_tag.ensures, is_some-then_some)

@@ -1,36 +1,30 @@
 -- The row is looked up, then its rule, then an earlier entry with the tag.
 -- Assumes nothing.
-use borrow.Author.Tests.{lt-ltb, le-ltb}
 use Rattle.rules.specs.Dynamic.{bad_entry}
+use Rattle.entries.proofs.Laws.{is_some-then_some, then_some-there, then_some-none}
 use Rattle.entries.proofs.is_bad_entry.Goals as goal
 
-pub returns-then-r-ge-ROWS : goal.returns-then-r-ge-ROWS
+pub returns-in_default : goal.returns-in_default
 unfolding bad_entry
-returns-then-r-ge-ROWS c = rw (← c.tag_at-tag.ensures, ← c.row_of-r.ensures, le-ltb _ _ c.if-r-ge-ROWS.true)
+returns-in_default c = rw (← c.tag_at-tag.ensures, then_some-none _ _ c.in_default.ensures)
 
 pub returns-then-is_allowed : goal.returns-then-is_allowed
 unfolding bad_entry
 returns-then-is_allowed c =
+    let e = then_some-there _ _ _ c.in-Some.ensures in
     rw (
       ← c.tag_at-tag.ensures,
-      ← c.row_of-r.ensures,
-      lt-ltb _ _ c.if-r-ge-ROWS.false,
-      ← c.row_at-k.ensures,
-      ← c.value_at-value.ensures,
-      ← c.is_allowed.ensures,
-      c.if-is_allowed.true,
-      ← c.tag_before.ensures,
+      e.0,
+      ← e.1,
+      ← c.value_at.ensures,
+      ← c.if-is_allowed.ensures,
+      c.is_some.ensures,
+      c.find_tag.ensures,
+      is_some-then_some,
     )
 
 pub returns : goal.returns
 unfolding bad_entry
 returns c =
-    rw (
-      ← c.tag_at-tag.ensures,
-      ← c.row_of-r.ensures,
-      lt-ltb _ _ c.if-r-ge-ROWS.false,
-      ← c.row_at-k.ensures,
-      ← c.value_at-value.ensures,
-      ← c.is_allowed.ensures,
-      c.if-is_allowed.false,
-    )
+    let e = then_some-there _ _ _ c.in-Some.ensures in
+    rw (← c.tag_at-tag.ensures, e.0, ← e.1, ← c.value_at.ensures, ← c.if-is_allowed.ensures)

@@ -7,23 +7,25 @@ use native.Mathlib.Omega.{arith}
 use Rattle.entries.proofs.lacks_partner.Goals as goal
 
 pub returns-then-is_partnerless : goal.returns-then-is_partnerless
+unfolding partnerless
 returns-then-is_partnerless c =
-    let l = c.loop-r in
+    let r = c.loop-row.row-index in
     let a = c.args in
     let t = partnerless known_tags a.f.now a.d in
-    sym (some_hit t 15 l.r (omega arith) (l.invariant.1 ∙ first-hit t l.r 15 (omega arith) (rw (← c.is_partnerless.ensures)
-    c.if-is_partnerless.true)))
+    sym (some_hit t 15 r (omega arith) (c.loop-row.invariant ∙ first-hit t r 15 (omega arith) (sym c.is_partnerless.ensures
+    ∙ c.if-is_partnerless.true)))
 
-pub loop-r-preserved : goal.loop-r-preserved
-loop-r-preserved c =
-    let l = c.loop-r in
+pub loop-row-preserved : goal.loop-row-preserved
+unfolding partnerless
+loop-row-preserved c =
+    let r = c.loop-row.row-index in
     let a = c.args in
     let t = partnerless known_tags a.f.now a.d in
-    (omega arith, l.invariant.1 ∙ first_step t l.r 15 (omega arith) (rw (← c.is_partnerless.ensures) c.if-is_partnerless.false))
+    c.loop-row.invariant ∙ first_step t r 15 (omega arith) (sym c.is_partnerless.ensures ∙ c.if-is_partnerless.false)
 
 pub returns : goal.returns
 returns c =
-    let l = c.loop-r in
+    let r = c.loop-row.row-index in
     let a = c.args in
     let t = partnerless known_tags a.f.now a.d in
-    sym (some_none t 15 (l.invariant.1 ∙ first_none t l.r 15 (omega arith) (omega arith)))
+    sym (some_none t 15 (c.loop-row.invariant ∙ first_none t r 15 (omega arith) (omega arith)))

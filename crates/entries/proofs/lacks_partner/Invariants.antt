@@ -3,11 +3,9 @@
 use Rattle.rules.specs.Dynamic.{partnerless, known_tags}
 use Rattle.rules.specs.First.{first}
 use mathlib.Core.Path.{◌≡◌}
-use Prim.Native.Nat.{◌≤◌, ◌-◌}
+use Prim.Native.Nat.{◌-◌}
 use Rattle.entries.proofs.lacks_partner.Given as goal
 
-abbrev pub invariant-loop-r : goal.invariant-loop-r
-invariant-loop-r l = (l.r ≤ 15) × (first (partnerless known_tags l.f l.d) 0 15 ≡ first (partnerless known_tags l.f l.d) l.r (15 - l.r))
-
-abbrev pub decreases-loop-r : goal.decreases-loop-r
-decreases-loop-r l = 15 - l.r
+abbrev pub invariant-loop-row : goal.invariant-loop-row
+invariant-loop-row l =
+    first (partnerless known_tags l.f l.d) 0 15 ≡ first (partnerless known_tags l.f l.d) l.row-index (15 - l.row-index)

@@ -21,6 +21,7 @@ pub returns : goal.returns
 unfolding header_check
 returns c =
     rw (
+      c.at.ensures,
       ← c.read16.ensures,
       ← c.read16-2.ensures,
       ← c.read32.ensures,

@@ -8,6 +8,3 @@ use Rattle.headers.proofs.check_identification.Given as goal
 
 abbrev pub invariant-loop-i : goal.invariant-loop-i
 invariant-loop-i l = (l.i ≤ 7) × (first (wrong_byte l.f) 0 7 ≡ first (wrong_byte l.f) l.i (7 - l.i))
-
-abbrev pub decreases-loop-i : goal.decreases-loop-i
-decreases-loop-i l = 7 - l.i

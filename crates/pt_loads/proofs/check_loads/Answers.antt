@@ -21,7 +21,7 @@ returns-then-is_bad_load c =
     let a = c.args in
     let t = bad_load a.f.now a.h in
     let hit : t l.i ≡ true = rw (← c.header_at-s.ensures, ← l.invariant.1, ← c.is_bad_load.ensures) c.if-is_bad_load.true in
-    sym (faultless-hit 4 t a.h.count l.i (l.invariant.2 ∙ first-hit t l.i a.h.count (omega arith) hit) (omega arith))
+    rw c.at.ensures (sym (faultless-hit 4 t a.h.count l.i (l.invariant.2 ∙ first-hit t l.i a.h.count (omega arith) hit) (omega arith)))
 
 pub end_after-last-requires : goal.end_after-last-requires
 end_after-last-requires c = sym c.is_bad_load.ensures ∙ c.if-is_bad_load.false

@@ -1,6 +1,6 @@
 -- The loop keeps that the first PT_LOAD that holds the bytes is the first from here on.
 -- Assumes nothing.
-use mathlib.Core.Path.{refl, sym, ◌∙◌}
+use mathlib.Core.Path.{sym, ◌∙◌}
 use native.Mathlib.Nat.{sub-zero}
 use native.Mathlib.Omega.{arith}
 use Rattle.rules.specs.Segments.{holds_at, in_memory}

@@ -13,7 +13,7 @@ unfolding backs_at backs header_at
 returns-then-holds_range c =
     rw (
       c.sum_within.ensures,
-      c.read64-2.ensures,
+      c.read64-then-holds_range.ensures,
       ← c.read64.ensures,
       ← c.read64-filesz.ensures,
       ← c.holds_range.ensures,

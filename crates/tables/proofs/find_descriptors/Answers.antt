@@ -8,16 +8,16 @@ use Rattle.tables.proofs.find_descriptors.Goals as goal
 pub returns-in_default : goal.returns-in_default
 unfolding descriptors_of
 returns-in_default c =
-    rw (← c.value_of-address.ensures, ← c.value_of-bytes.ensures, ← c.table_backing-backing.ensures, c.in_default.is)
+    rw (c.at.ensures, ← c.value_of-address.ensures, ← c.value_of-bytes.ensures, ← c.table_backing.ensures, c.in_default.is)
 
 pub overflow_cast-result : goal.overflow_cast-result
 overflow_cast-result c =
     let a = c.args in
     let h = table_size a.f.now a.h c.value_of-address.result c.value_of-bytes.result c.in-Some.at
-    (rw (← c.table_backing-backing.ensures) c.in-Some.is) in
+    (rw (← c.table_backing.ensures) c.in-Some.is) in
     omega arith
 
 pub returns : goal.returns
 unfolding descriptors_of
 returns c =
-    rw (← c.value_of-address.ensures, ← c.value_of-bytes.ensures, ← c.table_backing-backing.ensures, c.in-Some.is)
+    rw (← c.value_of-address.ensures, ← c.value_of-bytes.ensures, ← c.table_backing.ensures, c.in-Some.is)

@@ -4,10 +4,7 @@ use Rattle.rules.specs.Dynamic.{has_tag_at}
 use Rattle.rules.specs.First.{first}
 use mathlib.Core.Path.{◌≡◌}
 use Prim.Native.Nat.{◌≤◌, ◌-◌}
-use Rattle.entries.proofs.tag_before.Given as goal
+use Rattle.entries.proofs.find_tag.Given as goal
 
 abbrev pub invariant-loop-i : goal.invariant-loop-i
 invariant-loop-i l = (l.i ≤ l.n) × (first (has_tag_at l.f l.d l.tag) 0 l.n ≡ first (has_tag_at l.f l.d l.tag) l.i (l.n - l.i))
-
-abbrev pub decreases-loop-i : goal.decreases-loop-i
-decreases-loop-i l = l.n - l.i

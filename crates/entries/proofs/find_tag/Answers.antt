@@ -3,10 +3,10 @@
 use Rattle.rules.specs.Dynamic.{has_tag_at, tag_before}
 use native.Mathlib.Nat.{sub-zero}
 use Rattle.rules.proofs.FirstLaws.{first_step, first-hit, first_none}
-use mathlib.Core.Path.{sym, ◌∙◌}
+use mathlib.Core.Path.{◌≡◌, ◌∙◌}
 use native.Mathlib.Omega.{arith}
-use borrow.Author.Tests.{eq-eqb, ne_eqb}
-use Rattle.entries.proofs.tag_before.Goals as goal
+use borrow.Author.Tests.{eq-eqb, ne_eqb, lt-ltb, le-ltb}
+use Rattle.entries.proofs.find_tag.Goals as goal
 
 pub loop-i-init : goal.loop-i-init
 loop-i-init c = (omega arith, rw sub-zero)
@@ -17,7 +17,9 @@ returns-then-tag_at-tag c =
     let l = c.loop-i in
     let a = c.args in
     let t = has_tag_at a.f.now a.d a.tag in
-    sym (l.invariant.1 ∙ first-hit t l.i a.n (omega arith) (rw (← c.tag_at.ensures) (eq-eqb _ _ c.if-tag_at-tag.true)))
+    let e : tag_before a.f.now a.d a.tag a.n ≡ l.i =
+    l.invariant.1 ∙ first-hit t l.i a.n (omega arith) (rw (← c.tag_at.ensures) (eq-eqb _ _ c.if-tag_at-tag.true)) in
+    rw (e, lt-ltb l.i a.n (omega arith))
 
 pub loop-i-preserved : goal.loop-i-preserved
 unfolding has_tag_at
@@ -33,4 +35,5 @@ returns c =
     let l = c.loop-i in
     let a = c.args in
     let t = has_tag_at a.f.now a.d a.tag in
-    sym (l.invariant.1 ∙ first_none t l.i a.n (omega arith) (omega arith))
+    let e : tag_before a.f.now a.d a.tag a.n ≡ a.n = l.invariant.1 ∙ first_none t l.i a.n (omega arith) (omega arith) in
+    rw (e, le-ltb a.n a.n (omega arith))
