@@ -12,9 +12,12 @@ pub returns-then-sizes-globals-clause-checked : goal.returns-then-sizes-globals-
 returns-then-sizes-globals-clause-checked c =
     let a = c.args in
     rw c.at.ensures (sym (elim c.then-sizes-globals.branch [
-      | then-sizes-globals-via-then-sizes-globals w ↦ unequal_sizes a.addresses.now a.sizes.now a.random.now a.excluded a.room w.if-sizes-globals.true
-      | then-sizes-globals-via-else-sizes-globals+then-random-globals w ↦ unequal_random a.addresses.now a.sizes.now a.random.now a.excluded a.room w.if-random-globals.true
-      | then-sizes-globals-via-else-sizes-globals+else-random-globals+then-room-globals w ↦ unequal_choices a.addresses.now a.sizes.now a.random.now a.excluded a.room w.if-room-globals.true
+      | then-sizes-globals-via-then-sizes-globals w ↦
+          unequal_sizes a.addresses.now a.sizes.now a.random.now a.excluded a.room w.if-sizes-globals.true
+      | then-sizes-globals-via-else-sizes-globals+then-random-globals w ↦
+          unequal_random a.addresses.now a.sizes.now a.random.now a.excluded a.room w.if-random-globals.true
+      | then-sizes-globals-via-else-sizes-globals+else-random-globals+then-room-globals w ↦
+          unequal_choices a.addresses.now a.sizes.now a.random.now a.excluded a.room w.if-room-globals.true
     ]))
 
 pub returns-in_err-checked-clause-checked : goal.returns-in_err-checked-clause-checked
