@@ -112,7 +112,8 @@ fn around(place: u64, low: u64, top: u64) -> u64
 // rise, none is met twice and no map is needed. The items that are told apart are passed over: the next one repeats if it does so around its
 // place, and else all windows are searched.
 pub fn find_repeat(f: &[u8], m: Module, n: u32, low: u64, top: u64, rising: bool) -> Option<Lowest>
-    requires { Inside f.now m × (n ≤ items m) × (m.packed.places ≡ length (packed_before f.now m.packed.at m.packed.words)) × Bounded f.now m n low top × (top ≤ memory_limit) × (rising ≡ true → Rising f.now m n) }
+    requires { Inside f.now m × (n ≤ items m) × (m.packed.places ≡ length (packed_before f.now m.packed.at m.packed.words))
+        × Bounded f.now m n low top × (top ≤ memory_limit) × (rising ≡ true → Rising f.now m n) }
     ensures { Lowers f.now m n result }
 {
     if rising || top < low {
