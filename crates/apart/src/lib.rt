@@ -74,7 +74,8 @@ fn spread_entries(map: &mut [u8], f: &[u8], m: Module, n: u32, lo: u64) -> Optio
 
 // The first of n items that is not told apart, where the entries among them are and the map has their words.
 fn spread_packed(map: &mut [u8], f: &[u8], m: Module, n: u32, lo: u64) -> Option<Told>
-    requires { Walkable f.now m n × Within f.now m lo (length map.old) n × (n ≤ m.relocations.entries → Apart f.now m n) × (m.relocations.entries ≤ n → Spread f.now m lo m.relocations.entries map.old) }
+    requires { Walkable f.now m n × Within f.now m lo (length map.old) n × (n ≤ m.relocations.entries → Apart f.now m n)
+        × (m.relocations.entries ≤ n → Spread f.now m lo m.relocations.entries map.old) }
     ensures { Tells f.now m n result }
 {
     let mut run = START;

@@ -21,8 +21,13 @@ use Rattle.windows.specs.Window.{NoneBelow, kept, meets_in, repeats_in}
 use Rattle.windows.proofs.LeastLaws.{least_first, none_first}
 use Rattle.windows.proofs.Laws.{window_in}
 use Rattle.repeats.specs.Repeats.{meets, repeats, Lowers}
-use Rattle.repeats.specs.Search.{Finds, Behind, Met, Searched}
+use Rattle.repeats.specs.Search.{Finds, Behind, Searched}
 use Rattle.repeats.specs.declared.Lowest.{Lowest}
+
+-- the items before the repeat that was found, all of them where none was
+abbrev pub before : ℕ → Option Lowest → ℕ
+before n None = n
+before n (Some v) = v.item
 
 module _ (f : List ℕ) (m : Module) where
   -- an item repeats where it does in a window
@@ -86,7 +91,7 @@ module _ (f : List ℕ) (m : Module) where
   rising_apart n rising i j l u a b near = omega (arith, (near_shares (place_at f m j) (place_at f m i) near).1, rising i j l u a b)
 
   -- a window more, which goes on by 8 bytes past the start of the next
-  pub searched_window : (n lo size next : ℕ) (v : Option Lowest) → next + 8 ≤ lo + size → Behind f m n lo → Finds f m lo size n v
+  searched_window : (n lo size next : ℕ) (v : Option Lowest) → next + 8 ≤ lo + size → Behind f m n lo → Finds f m lo size n v
       → Searched f m n next v
   searched_window n lo size next None room s none =
       λ i j l u a b near. window_none lo size next i j room l a b (s i j l u a b near) near (none i u)
@@ -100,14 +105,34 @@ module _ (f : List ℕ) (m : Module) where
         behind = λ i j l u a b near. window_none lo size next i j room l a b (s i j l (omega arith) a b near) near (least.none i u);
       }
 
-  -- windows behind one that has a repeat, below it
-  pub searched_below : (n next end : ℕ) (v : Lowest) (rest : Option Lowest) → Met f m n next v → Searched f m v.item end rest
-      → Searched f m n end (option_or rest (Some v))
-  searched_below n next end v None s w = record { below = s.below; repeated = s.repeated; reported = s.reported; behind = w }
-  searched_below n next end v (Some u) s w =
+  -- windows from low on are searched up to an end, each below what was found before it
+  pub record Searching (n low end : ℕ) (found : Option Lowest) : Type 0 where
+    pub few : before n found ≤ n
+    pub searched : Behind f m n low → Searched f m n end found
+
+  less : (n lo size : ℕ) (found here : Option Lowest) → before n found ≤ n → Finds f m lo size (before n found) here
+      → before n (option_or here found) ≤ n
+  less n lo size found None l w = l
+  less n lo size found (Some v) l w = let below = w.0.below in omega arith
+
+  more : (n lo size next : ℕ) (found here : Option Lowest) → next + 8 ≤ lo + size → Searched f m n lo found
+      → Finds f m lo size (before n found) here → Searched f m n next (option_or here found)
+  more n lo size next None None room s w = searched_window n lo size next None room s w
+  more n lo size next None (Some v) room s w = searched_window n lo size next (Some v) room s w
+  more n lo size next (Some u) None room s w =
+      record { below = s.below; repeated = s.repeated; reported = s.reported; behind = searched_window u.item lo size next None room s.behind w }
+  more n lo size next (Some u) (Some v) room s w =
+      let r = searched_window u.item lo size next (Some v) room s.behind w in
       let a = s.below in
-      let b = w.below in
-      record { below = omega arith; repeated = w.repeated; reported = w.reported; behind = w.behind }
+      let b = r.below in
+      record { below = omega arith; repeated = r.repeated; reported = r.reported; behind = r.behind }
+
+  pub searching_next : (n low lo size next : ℕ) (found here : Option Lowest) → Searching n low lo found → next + 8 ≤ lo + size
+      → Finds f m lo size (before n found) here → Searching n low next (option_or here found)
+  searching_next n low lo size next found here s room w = record {
+    few = less n lo size found here s.few w;
+    searched = λ b. more n lo size next found here room (s.searched b) w;
+  }
 
   -- no item repeats among those that are apart, and none where all places are searched
   none_repeats : (n : ℕ) → ((i : ℕ) → Pair i → i < n → ⊥) → NoneBelow (repeats f m) n

@@ -9,7 +9,7 @@ ghost use Rattle.items.specs.Table.{Inside, Bounded, Rising};
 ghost use Rattle.apart.specs.Apart.{Walkable};
 ghost use Rattle.windows.specs.Window.{Wide, Empty};
 ghost use Rattle.repeats.specs.Repeats.{Lowers};
-ghost use Rattle.repeats.specs.Search.{small, overlap, Passed, Finds, Behind, Searched};
+ghost use Rattle.repeats.specs.Search.{Passed, Finds, Behind, Searched};
 
 use places::START;
 use rules::Module;
@@ -71,7 +71,8 @@ fn meet_items(map: &mut [u8], f: &[u8], m: Module, n: u32, lo: u64, size: u64) -
     meet_packed(map, f, m, n, lo, size)
 }
 
-// The same with a map of its own, in a frame of its own.
+// The same with a map of its own. It is not inlined, so that a map is in no frame but its own.
+#[inline(never)]
 fn find_in<const MAP: usize>(f: &[u8], m: Module, n: u32, lo: u64, size: u64) -> Option<Lowest>
     requires { Walkable f.now m n × (size + 23 ≤ 16 * MAP) × (MAP < 2 ^ 63) }
     ensures { Finds f.now m lo size n result }
@@ -80,24 +81,23 @@ fn find_in<const MAP: usize>(f: &[u8], m: Module, n: u32, lo: u64, size: u64) ->
     meet_items(&mut map, f, m, n, lo, size)
 }
 
-// In windows one after the other from low to top, each below the lowest found before it; the last is small if it may be. It calls itself so
-// that no map is in the frames of its callers.
+// In windows one after the other from low to top, each below the lowest found before it; the last is small if it may be.
 fn find_windows(f: &[u8], m: Module, n: u32, low: u64, top: u64) -> Option<Lowest>
     requires { Walkable f.now m n × (low ≤ top) × (top ≤ memory_limit) }
-    ensures finds { top - low < small → Finds f.now m low (small + overlap) n result }
-    ensures searches { Behind f.now m n low → Searched f.now m n (top + 1) result }
+    ensures { Behind f.now m n low → Searched f.now m n (top + 1) result }
 {
-    if top - low < SMALL {
-        return find_in::<SMALL_MAP>(f, m, n, low, SMALL_WINDOW);
+    let mut found: Option<Lowest> = None;
+    for k in 0..(top - low) / LARGE + 1 {
+        let lo = low + LARGE * k;
+        let end = found.map_or(n, |v| v.item);
+        let here = if top - lo < SMALL {
+            find_in::<SMALL_MAP>(f, m, end, lo, SMALL_WINDOW)
+        } else {
+            find_in::<LARGE_MAP>(f, m, end, lo, LARGE_WINDOW)
+        };
+        found = here.or(found);
     }
-    let here = find_in::<LARGE_MAP>(f, m, n, low, LARGE_WINDOW);
-    if top - low < LARGE {
-        return here;
-    }
-    match here {
-        None => find_windows(f, m, n, low + LARGE, top),
-        Some(v) => find_windows(f, m, v.item, low + LARGE, top).or(here),
-    }
+    found
 }
 
 // From low to top: where the bytes before a place begin at which one that shares a byte with it may start.
@@ -112,7 +112,8 @@ fn around(place: u64, low: u64, top: u64) -> u64
 // rise, none is met twice and no map is needed. The items that are told apart are passed over: the next one repeats if it does so around its
 // place, and else all windows are searched.
 pub fn find_repeat(f: &[u8], m: Module, n: u32, low: u64, top: u64, rising: bool) -> Option<Lowest>
-    requires { Inside f.now m × (n ≤ items m) × (m.packed.places ≡ length (packed_before f.now m.packed.at m.packed.words)) × Bounded f.now m n low top × (top ≤ memory_limit) × (rising ≡ true → Rising f.now m n) }
+    requires { Inside f.now m × (n ≤ items m) × (m.packed.places ≡ length (packed_before f.now m.packed.at m.packed.words))
+        × Bounded f.now m n low top × (top ≤ memory_limit) × (rising ≡ true → Rising f.now m n) }
     ensures { Lowers f.now m n result }
 {
     if rising || top < low {
@@ -120,7 +121,7 @@ pub fn find_repeat(f: &[u8], m: Module, n: u32, low: u64, top: u64, rising: bool
     }
     let told = apart::tell_apart(f, m, n, low, top)?;
     let at = around(told.place, low, top);
-    if let Some(v) = find_windows(f, m, told.item + 1, at, at) {
+    if let Some(v) = find_in::<SMALL_MAP>(f, m, told.item + 1, at, SMALL_WINDOW) {
         return Some(v);
     }
     find_windows(f, m, n, low, top)

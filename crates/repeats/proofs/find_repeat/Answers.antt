@@ -26,11 +26,11 @@ pub returns-in-Some : goal.returns-in-Some
 returns-in-Some c =
     let a = c.args in
     let told = c.in_ok-told.ensures in
-    lowers_next a.f.now a.m a.n c.in_ok-told.told.item _ (small + overlap) c.in-Some.v told.0 told.1 (c.in-Some.ensures.finds (omega arith))
+    lowers_next a.f.now a.m a.n c.in_ok-told.told.item _ (small + overlap) c.in-Some.v told.0 told.1 c.in-Some.ensures
 
 pub returns : goal.returns
 returns c =
     let a = c.args in
     let p = c.requires.3 in
     lowers_searched a.f.now a.m a.n (a.top + 1) (λ i l e. omega (arith, p.below i l e)) _
-    (c.find_windows-2.ensures.searches (λ i j l u x y near. (p.above i u x, p.above j (omega arith) y)))
+    (c.find_windows.ensures (λ i j l u x y near. (p.above i u x, p.above j (omega arith) y)))
