@@ -5,7 +5,7 @@ ghost use Rattle.std.specs.Prelude.{◌≡◌, ◌||◌, ◌+◌, eqb};
 ghost use Rattle.rules.specs.Bytes.{le};
 ghost use Rattle.rules.specs.Relocations.{abs64, glob_dat, entry_at, symbol_backing, symbol_of, target_of, named_target, target, barred};
 
-use rules::{Backing, Entry, Headers, MEMORY_LIMIT, Relocations, Symbol, Target};
+use rules::{Headers, MEMORY_LIMIT, Relocations, Symbol, Target};
 
 const R_AARCH64_ABS64: u32 = 257;
 
@@ -24,6 +24,8 @@ pub const SHN_LORESERVE: u16 = 0xff00;
 pub const SYMBOL_BYTES: u64 = 24;
 
 pub const ENTRY_BYTES: usize = 24;
+
+// Kept: a reader for each field. An entry that is skipped or refused is judged without its other fields.
 
 // An entry's place.
 pub fn place_at(f: &[u8], r: Relocations, i: u32) -> u64
@@ -54,20 +56,21 @@ pub fn addend_at(f: &[u8], r: Relocations, i: u32) -> u64
 }
 
 // Where the entry of symbol n is backed.
-fn symbol_backing(f: &[u8], h: Headers, n: u32, symbols: Entry) -> Backing
+#[tactic(auto, unfolding(rules::specs::Relocations::symbol_backing))]
+fn symbol_backing(f: &[u8], h: Headers, n: u32, symbols: Option<u64>) -> Option<u32>
     ensures { result ≡ symbol_backing f.now h n symbols }
 {
-    let Entry::Value(table) = symbols else {
-        return Backing::Nowhere;
-    };
+    let table = symbols?;
     let offset = SYMBOL_BYTES * (n as u64);
     if reads::sum_within(table, offset, MEMORY_LIMIT) {
-        return segments::backing_of(f, h, table + offset, SYMBOL_BYTES);
+        segments::backing_of(f, h, table + offset, SYMBOL_BYTES)
+    } else {
+        None
     }
-    Backing::Nowhere
 }
 
 // The symbol entry at a position of the file.
+#[tactic(auto, unfolding(rules::specs::Relocations::symbol_of))]
 fn symbol_of(f: &[u8], at: u32) -> Symbol
     ensures { result ≡ symbol_of f.now at }
 {
@@ -80,68 +83,48 @@ fn symbol_of(f: &[u8], at: u32) -> Symbol
 }
 
 // What a symbol refers to, where it is allowed.
+#[tactic(auto, unfolding(rules::specs::Relocations::target_of))]
 fn target_of(s: Symbol) -> Target
     ensures { result ≡ target_of s }
 {
-    let info = s.info;
-    let section = s.section;
-    let value = s.value;
-    if info % 16 == STT_TLS {
-        return Target::Barred;
+    match (s.info % 16, s.section) {
+        (STT_TLS | STT_GNU_IFUNC, _) => Target::Barred,
+        (_, 1..SHN_LORESERVE) => Target::Defined(s.value),
+        (_, 0) if s.info / 16 == STB_WEAK => Target::Undefined,
+        _ => Target::Barred,
     }
-    if info % 16 == STT_GNU_IFUNC {
-        return Target::Barred;
-    }
-    if SHN_LORESERVE <= section {
-        return Target::Barred;
-    }
-    if section != 0 {
-        return Target::Defined(value);
-    }
-    if info / 16 == STB_WEAK {
-        return Target::Undefined;
-    }
-    Target::Barred
 }
 
-fn named_target(f: &[u8], p: Backing) -> Target
+// What the symbol whose entry stands at a position of the file refers to.
+#[tactic(auto, unfolding(rules::specs::Relocations::named_target))]
+fn named_target(f: &[u8], p: Option<u32>) -> Target
     ensures { result ≡ named_target f.now p }
 {
-    let Backing::At(at) = p else {
-        return Target::Barred;
-    };
-    let s = symbol_of(f, at);
-    target_of(s)
+    match p {
+        Some(at) => target_of(symbol_of(f, at)),
+        None => Target::Barred,
+    }
 }
 
 // The kinds that have a symbol.
 pub fn is_symbolic(kind: u32) -> bool
     ensures { result ≡ (eqb kind abs64 || eqb kind glob_dat) }
 {
-    if kind == R_AARCH64_ABS64 {
-        return true;
-    }
-    kind == R_AARCH64_GLOB_DAT
+    kind == R_AARCH64_ABS64 || kind == R_AARCH64_GLOB_DAT
 }
 
 // What an entry of a kind and a symbol refers to.
-pub fn find_target(f: &[u8], h: Headers, symbols: Entry, kind: u32, symbol: u32) -> Target
+#[tactic(auto, unfolding(rules::specs::Relocations::target))]
+pub fn find_target(f: &[u8], h: Headers, symbols: Option<u64>, kind: u32, symbol: u32) -> Target
     ensures { result ≡ target f.now h symbols kind symbol }
 {
-    if kind == R_AARCH64_RELATIVE {
-        if symbol == 0 {
-            return Target::Base;
+    match kind {
+        R_AARCH64_RELATIVE if symbol == 0 => Target::Base,
+        R_AARCH64_ABS64 | R_AARCH64_GLOB_DAT if symbol != 0 => {
+            named_target(f, symbol_backing(f, h, symbol, symbols))
         }
-        return Target::Barred;
+        _ => Target::Barred,
     }
-    if is_symbolic(kind) {
-        if symbol == 0 {
-            return Target::Barred;
-        }
-        let p = symbol_backing(f, h, symbol, symbols);
-        return named_target(f, p);
-    }
-    Target::Barred
 }
 
 // A target that check 10 refuses.

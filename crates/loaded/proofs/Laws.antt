@@ -39,9 +39,3 @@ module _ (f : List ℕ) (h : Headers) (place : ℕ) where
       let a : place + (k - 1) + 1 ≡ place + k = omega arith in
       let p : 256 ^ suc (8 - k) ≡ 256 ^ (8 - k) * 256 = pow-suc 256 (8 - k) in
       record { left = omega arith; value = rw (n, a, ← r.value, e); room = rw n (omega arith) }
-
-  pub reading_end : (v k : ℕ) → Reading f h place v k → k ≤ 0 → v ≡ loaded_in f h 8 place
-  reading_end v k r l =
-      let n : 8 - k ≡ 8 = omega arith in
-      let a : place + k ≡ place = omega arith in
-      rw (n, a) at r.value

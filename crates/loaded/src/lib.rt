@@ -6,17 +6,16 @@ ghost use Rattle.rules.specs.Outcome.{good};
 ghost use Rattle.rules.specs.Segments.{loads_check, backing_of};
 ghost use Rattle.rules.specs.Image.{byte_of, loaded_in, loaded_at};
 
-use rules::{Backing, Headers};
+use rules::Headers;
 
 // The byte loaded at an address; past the file part it is 0.
 fn loaded_byte(f: &[u8], h: Headers, a: u64) -> u8
     ensures { result ≡ byte_of f.now (backing_of f.now h a 1) }
 {
-    let p = segments::backing_of(f, h, a, 1);
-    let Backing::At(at) = p else {
-        return 0;
-    };
-    reads::byte_at(f, at as usize)
+    match segments::backing_of(f, h, a, 1) {
+        Some(at) => reads::byte_at(f, at as usize),
+        None => 0,
+    }
 }
 
 // The eight bytes one by one, where they are not all of one file part.
@@ -25,9 +24,7 @@ fn loaded_bytes(f: &[u8], h: Headers, place: u64) -> u64
     ensures { result ≡ loaded_in f.now h 8 place }
 {
     let mut v: u64 = 0;
-    let mut k: u64 = 8;
-    while 0 < k {
-        k -= 1;
+    for k in (0..8).rev() {
         v = loaded_byte(f, h, place + k) as u64 + 256 * v;
     }
     v
@@ -38,9 +35,8 @@ pub fn loaded_at(f: &[u8], h: Headers, place: u64) -> u64
     requires { (loads_check f.now h ≡ good tt) × (place < 9223372036854775808) }
     ensures { result ≡ loaded_at f.now h place }
 {
-    let p = segments::backing_of(f, h, place, 8);
-    let Backing::At(at) = p else {
-        return loaded_bytes(f, h, place);
-    };
-    reads::read64(f, at as usize)
+    match segments::backing_of(f, h, place, 8) {
+        Some(at) => reads::read64(f, at as usize),
+        None => loaded_bytes(f, h, place),
+    }
 }

@@ -1,5 +1,6 @@
 -- The file part of a PT_LOAD that passed check 4.
 -- Assumes nothing.
+use Rattle.std.specs.Prelude.{Some}
 use Prim.Native.Nat.{ℕ, ◌+◌, ◌≤◌, ◌<◌}
 use mathlib.Core.Path.{◌≡◌}
 use mathlib.Core.Bool.{Bool, true, not, ◌&&◌, ◌||◌}
@@ -17,7 +18,7 @@ use Rattle.rules.proofs.OutcomeLaws.{and_left, and_right}
 use Rattle.laws.proofs.Loads.{load_good, covers_within, within_covers}
 use Rattle.laws.proofs.Loaded.{backing_part}
 use Rattle.segments.proofs.Laws.{backs_inside}
-use Rattle.parts.specs.Parts.{Parted}
+use Rattle.parts.specs.Parts.{Parted, PartFound}
 
 -- none was found
 pub parted_none : (f : List ℕ) (h : Headers) (write : Bool) → Parted f h write (record { start = 0; size = 0; at = 0 })
@@ -57,7 +58,7 @@ module _ (f : List ℕ) (h : Headers) (passed : loads_check f h ≡ good tt) (wr
   unfolding in_memory holds_at
   held_part x k i m l w b = at_some (holds_at f h write x k) h.count i m (backs_held write x k (header_at f h i) l w b)
 
-  pub parted_at : (a n i : ℕ) (s : Segment) → i < h.count → s ≡ header_at f h i → ((not write || writable s) && backs a n s) ≡ true
+  parted_at : (a n i : ℕ) (s : Segment) → i < h.count → s ≡ header_at f h i → ((not write || writable s) && backs a n s) ≡ true
       → Parted f h write (record { start = s.vaddr; size = s.filesz; at = s.offset })
   unfolding backs backs_at
   parted_at a n i s m e p =
@@ -74,3 +75,11 @@ module _ (f : List ℕ) (h : Headers) (passed : loads_check f h ≡ good tt) (wr
         held = λ x k l c. held_part x k i m g.sized w (backs_too a n x k t b c);
         backed = λ x k l c. backing_part f h passed x k i l m (backs_too a n x k t b c);
       })
+
+  -- and it covers them
+  pub found_at : (a n i : ℕ) (s : Segment) → i < h.count → s ≡ header_at f h i → ((not write || writable s) && backs a n s) ≡ true
+      → PartFound f h write a n (Some (record { start = s.vaddr; size = s.filesz; at = s.offset }))
+  unfolding backs
+  found_at a n i s m e p =
+      let b = and_right (not write || writable s) _ p in
+      (parted_at a n i s m e p, and_left (covers s.vaddr s.filesz a n) _ (and_right (is_load s) _ b))

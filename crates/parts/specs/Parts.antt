@@ -1,6 +1,6 @@
 -- The file part of a PT_LOAD that was found, and is asked again.
 -- Assumes nothing.
-use Rattle.std.specs.Prelude.{ℕ, ◌+◌, ◌-◌, ◌≤◌, ◌<◌, ◌≡◌, Bool, true, List, length, Some}
+use Rattle.std.specs.Prelude.{ℕ, ◌+◌, ◌-◌, ◌≤◌, ◌<◌, ◌≡◌, Bool, true, List, length, Option, Some, None, ⊤}
 use Rattle.rules.specs.Limits.{file_limit, memory_limit}
 use Rattle.rules.specs.Segments.{covers, backing_of, in_memory}
 use Rattle.rules.specs.declared.Headers.{Headers}
@@ -14,3 +14,8 @@ pub record Parted (f : List ℕ) (h : Headers) (write : Bool) (s : Part) : Type 
   pub low : s.start + s.size ≤ memory_limit
   pub held : (x k : ℕ) → 0 < k → covers s.start s.size x k ≡ true → in_memory f h write x k ≡ true
   pub backed : (x k : ℕ) → 0 < k → covers s.start s.size x k ≡ true → backing_of f h x k ≡ Some (s.at + (x - s.start))
+
+-- what a search for the file part that has the n bytes from a found: it covers them; where none is found, nothing is said
+abbrev pub PartFound : List ℕ → Headers → Bool → ℕ → ℕ → Option Part → Type 0
+PartFound f h write a n (Some s) = Parted f h write s × (covers s.start s.size a n ≡ true)
+PartFound f h write a n None = ⊤

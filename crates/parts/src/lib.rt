@@ -4,7 +4,7 @@
 ghost use Rattle.std.specs.Prelude.{◌≡◌, not, ◌&&◌, ◌||◌, ◌<◌};
 ghost use Rattle.rules.specs.Outcome.{good};
 ghost use Rattle.rules.specs.Segments.{loads_check, writable, backs};
-ghost use Rattle.parts.specs.Parts.{Parted};
+ghost use Rattle.parts.specs.Parts.{PartFound};
 
 use rules::{FILE_LIMIT, Headers, Segment};
 use segments::PT_LOAD;
@@ -25,37 +25,30 @@ pub const NO_PART: Part = Part {
 };
 
 // The n bytes from a are inside the file part of a PT_LOAD, a writable one where that is asked.
+#[tactic(auto, unfolding(rules::specs::Segments::backs))]
 fn is_part(s: Segment, write: bool, a: u64, n: u64) -> bool
     ensures { result ≡ ((not write || writable s) && backs a n s) }
 {
-    if s.kind != PT_LOAD {
-        return false;
-    }
-    let backed = reads::both(
-        reads::holds_range(s.vaddr, s.filesz, a, n),
-        reads::sum_within(s.offset, s.filesz, FILE_LIMIT),
-    );
-    if write {
-        return reads::both(s.flags / 2 % 2 == 1, backed);
-    }
-    backed
+    s.kind == PT_LOAD
+        && (!write || s.flags / 2 % 2 == 1)
+        && reads::holds_range(s.vaddr, s.filesz, a, n)
+        && reads::sum_within(s.offset, s.filesz, FILE_LIMIT)
 }
 
 // The file part of the first PT_LOAD that backs the n bytes from a, a writable one where that is asked.
-pub fn find_part(f: &[u8], h: Headers, write: bool, a: u64, n: u64) -> Part
+pub fn find_part(f: &[u8], h: Headers, write: bool, a: u64, n: u64) -> Option<Part>
     requires { (0 < n) × (loads_check f.now h ≡ good tt) }
-    ensures { Parted f.now h write result }
+    ensures { PartFound f.now h write a n result }
 {
-    let count = h.count;
-    for i in 0..count {
+    for i in 0..h.count {
         let s = segments::header_at(f, h, i);
         if is_part(s, write, a, n) {
-            return Part {
+            return Some(Part {
                 start: s.vaddr,
                 size: s.filesz,
                 at: s.offset,
-            };
+            });
         }
     }
-    NO_PART
+    None
 }

@@ -9,55 +9,23 @@ ghost use Rattle.rules.specs.Plane.{tag_address};
 ghost use Rattle.rules.specs.Words.{source_tag};
 ghost use Rattle.rules.specs.Answers.{in_range};
 
-use rules::{ADDRESS_LIMIT, Address, GRANULE, Target};
-
-// Addends from here on are below 0.
-const NEGATIVE: u64 = 9223372036854775808;
-
-// The largest u64.
-const LARGEST: u64 = 18446744073709551615;
+use rules::{ADDRESS_LIMIT, GRANULE, Target};
 
 // base and a signed addend, where that is an address.
-fn offset_address(base: u64, addend: u64) -> Address
+fn offset_address(base: u64, addend: u64) -> Option<u64>
     ensures { result ≡ in_range (pos base +ℤ signed addend) }
 {
-    if addend < NEGATIVE {
-        if base >= ADDRESS_LIMIT {
-            return Address::Outside;
-        }
-        if addend >= ADDRESS_LIMIT {
-            return Address::Outside;
-        }
-        let sum = base + addend;
-        if sum < ADDRESS_LIMIT {
-            return Address::At(sum);
-        }
-        return Address::Outside;
-    }
-    // The addend takes less + 1 away.
-    let less = LARGEST - addend;
-    if base <= less {
-        return Address::Outside;
-    }
-    let rest = base - less - 1;
-    if rest < ADDRESS_LIMIT {
-        return Address::At(rest);
-    }
-    Address::Outside
+    let sum = base.checked_add_signed(addend.cast_signed())?;
+    if sum < ADDRESS_LIMIT { Some(sum) } else { None }
 }
 
 // The address of a target with its signed addend, where it is in range.
-pub fn address_of(bias: u64, target: Target, addend: u64) -> Address
+pub fn address_of(bias: u64, target: Target, addend: u64) -> Option<u64>
     ensures { result ≡ in_range (address_of bias target addend) }
 {
     match target {
         Target::Base => offset_address(bias, addend),
-        Target::Defined(value) => {
-            if LARGEST - bias < value {
-                return Address::Outside;
-            }
-            offset_address(bias + value, addend)
-        }
+        Target::Defined(value) => offset_address(bias.checked_add(value)?, addend),
         Target::Undefined => offset_address(0, addend),
         Target::Barred => offset_address(0, addend),
     }
@@ -68,10 +36,8 @@ pub fn bare_word(bias: u64, target: Target, addend: u64) -> u64
     ensures { result ≡ mod64 (address_of bias target addend) }
 {
     match target {
-        Target::Base => std::num::wrapping_add_u64(bias, addend),
-        Target::Defined(value) => {
-            std::num::wrapping_add_u64(std::num::wrapping_add_u64(bias, value), addend)
-        }
+        Target::Base => bias.wrapping_add(addend),
+        Target::Defined(value) => bias.wrapping_add(value).wrapping_add(addend),
         Target::Undefined => addend,
         Target::Barred => addend,
     }
@@ -81,7 +47,7 @@ pub fn bare_word(bias: u64, target: Target, addend: u64) -> u64
 pub fn relative_source(bias: u64, addend: u64, loaded: u64) -> u64
     ensures { result ≡ mod64 (pos bias +ℤ signed addend +ℤ signed loaded) }
 {
-    std::num::wrapping_add_u64(std::num::wrapping_add_u64(bias, addend), loaded)
+    bias.wrapping_add(addend).wrapping_add(loaded)
 }
 
 // The tag of the granule at a distance from the memory's first address; 0 outside its n addresses.
@@ -89,9 +55,10 @@ fn distance_tag(plane: &[u8], n: u64, distance: u64) -> u8
     ensures { result ≡ (if nat_lt distance n then slice_index plane.now (distance / granule) else 0) }
 {
     if distance < n {
-        return reads::byte_at(plane, (distance / GRANULE) as usize);
+        reads::byte_at(plane, (distance / GRANULE) as usize)
+    } else {
+        0
     }
-    0
 }
 
 // The tag of the granule at a run-time address; 0 outside the n addresses from bias on.
@@ -99,9 +66,10 @@ pub fn granule_tag(plane: &[u8], bias: u64, n: u64, source: u64) -> u8
     ensures { result ≡ tag_address plane.now bias n source }
 {
     if source < bias {
-        return 0;
+        0
+    } else {
+        distance_tag(plane, n, source - bias)
     }
-    distance_tag(plane, n, source - bias)
 }
 
 // The tag that a target's word takes.

@@ -1,7 +1,7 @@
 -- The loop keeps that v is the number of the loaded bytes from k on.
 -- Assumes nothing.
 use native.Mathlib.Omega.{arith}
-use Rattle.loaded.proofs.Laws.{reading_start, reading_room, reading_next, reading_end}
+use Rattle.loaded.proofs.Laws.{reading_start, reading_room, reading_next}
 use Rattle.loaded.proofs.loaded_bytes.Goals as goal
 
 pub loop-k-init : goal.loop-k-init
@@ -26,9 +26,3 @@ loop-k-preserved c =
     let a = c.args in
     let b = c.loaded_byte.result in
     reading_next a.f.now a.h a.place l.v l.k b l.invariant (omega arith) (omega arith) c.loaded_byte.ensures
-
-pub returns : goal.returns
-returns c =
-    let l = c.loop-k in
-    let a = c.args in
-    reading_end a.f.now a.h a.place l.v l.k l.invariant (omega arith)
