@@ -1,11 +1,16 @@
 -- A number of one or two bytes in shortest form.
 -- Assumes nothing.
-use Rattle.std.specs.Prelude.{ℕ, ◌*◌, ◌<◌, ◌≡◌, false, List, length}
+use Rattle.std.specs.Prelude.{ℕ, ◌*◌, ◌<◌, ◌≡◌, false, List, length, Option, Some, None, ⊤}
 use Rattle.rules.specs.Descriptors.{number, uleb_at, padded}
 
--- the number at a position is this one, with the position after it, and not padded; 0 says nothing of it
-pub record ShortAt (s : List ℕ) (at value next : ℕ) : Type 0 where
+-- the number at a position is this one, with the position after it, and not padded
+pub record Short (s : List ℕ) (at value next : ℕ) : Type 0 where
   pub small : value < 128 * 128
-  pub inside : 0 < value → at < length s
-  pub read : 0 < value → uleb_at s at ≡ number value next
-  pub tight : 0 < value → padded s at next ≡ false
+  pub inside : at < length s
+  pub read : uleb_at s at ≡ number value next
+  pub tight : padded s at next ≡ false
+
+-- what was read there; that none was says nothing
+abbrev pub ShortAt : List ℕ → ℕ → Option (ℕ × ℕ) → Type 0
+ShortAt s at None = ⊤
+ShortAt s at (Some (v, next)) = Short s at v next

@@ -2,6 +2,8 @@
 -- Assumes nothing.
 use Rattle.std.proofs.Common.{◌≡◌, ℕ, zero, suc, ◌+◌, ◌-◌, ◌*◌, ◌/◌, ◌%◌, ◌^◌, ◌<◌, ◌≤◌, Bool, true, false, ltb, List, [], ◌∷◌, ◌++◌, map, length}
 use Rattle.std.proofs.Common.{sym, refl, ◌∙◌, pow-suc, arith, ltb-false, ltb-true, eq-eqb, ne_eqb}
+use lib.Count.{under, count_trailing_zeros}
+use Rattle.std.proofs.lemmas.Nat.{shr-shr}
 use Rattle.rules.specs.Packed.{Named, named, packed_word, bitmap_bits, bitmap_bytes, places_in, places_of, run_after, packed_from, packed_before}
 use Rattle.rules.specs.declared.Packed.{Packed}
 use Rattle.places.specs.Ahead.{ahead, place_limit, Standing, Next}
@@ -65,6 +67,34 @@ module _ {rest₀ left₀ place₀ rest left place : ℕ} (h : Passing rest₀ l
         end = omega arith;
         same = sym (skip_named left place rest l e) ∙ h.same;
       }
+
+-- all bits below the lowest that is set are passed over at once
+pub passing_all : {rest₀ left₀ place₀ : ℕ} (n rest left place : ℕ) → rest < 2 ^ n → Passing rest₀ left₀ place₀ rest left place
+    → (z : ℕ) → z ≡ count_trailing_zeros n rest
+    → Passing rest₀ left₀ place₀ (rest / 2 ^ z) (left - z) (place + 8 * z) × (rest / 2 ^ z % 2 ≡ 0 → ⊥) × (z < n)
+unfolding count_trailing_zeros
+passing_all zero rest left place b p z e = let s = p.some in absurd (omega arith)
+passing_all {rest₀} {left₀} {place₀} (suc n) rest left place b p z e =
+    let y = count_trailing_zeros n (rest / 2) in
+    let k : 2 ^ suc n ≡ 2 ^ n * 2 = pow-suc 2 n in
+    go y (rest % 2) refl e (λ even. passing_all n (rest / 2) (left - 1) (place + 8) (omega arith) (passing_next p even) y refl)
+  where
+    go : (y d : ℕ) → rest % 2 ≡ d → z ≡ under d y
+        → (rest % 2 ≡ 0 → Passing rest₀ left₀ place₀ (rest / 2 / 2 ^ y) (left - 1 - y) (place + 8 + 8 * y) × (rest / 2 / 2 ^ y % 2 ≡ 0 → ⊥) × (y < n))
+        → Passing rest₀ left₀ place₀ (rest / 2 ^ z) (left - z) (place + 8 * z) × (rest / 2 ^ z % 2 ≡ 0 → ⊥) × (z < suc n)
+    go y zero even q more =
+        let h = more even in
+        let s : 1 + y ≡ suc y = omega arith in
+        let r : rest / 2 / 2 ^ y ≡ rest / 2 ^ suc y = rw s at (shr-shr rest 1 y) in
+        let l : left - 1 - y ≡ left - suc y = omega arith in
+        let a : place + 8 + 8 * y ≡ place + 8 * suc y = omega arith in
+        rw q (rw (r, l, a) at h.0, rw r at h.1, omega (arith, h.2))
+    go y (suc d) odd q more =
+        let o : z ≡ 0 = q in
+        let r : rest / 2 ^ z ≡ rest = rw o (omega arith) in
+        let l : left - z ≡ left = omega arith in
+        let a : place + 8 * z ≡ place = omega arith in
+        rw (r, l, a) (p, (λ x. omega arith), omega arith)
 
 -- ---- the places of words
 
@@ -173,6 +203,13 @@ module _ (f : List ℕ) (t : Packed) where
             same = rw back (sym (reading_words ∙ rw fewer at first));
             more = h.more;
           }
+
+  -- the bits below the lowest that is set, of a word read
+  pub skipped : {c : Run} {words rest left place : ℕ} → Reading c words rest left place → (rest ≡ 0 → ⊥) → rest < 2 ^ 64
+      → (z : ℕ) → z ≡ count_trailing_zeros 64 rest
+      → Passing rest left place (rest / 2 ^ z) (left - z) (place + 8 * z) × (rest / 2 ^ z % 2 ≡ 0 → ⊥) × (z < 64)
+  skipped {c} {words} {rest} {left} {place} h some b z e =
+      passing_all 64 rest left place b (passing_none rest left place (omega arith) h.standing.bits) z e
 
   -- passing over bits from there on ends at the next place
   pub passing_found : {c : Run} {words rest₀ left₀ place₀ rest left place : ℕ} → Reading c words rest₀ left₀ place₀ → (rest₀ ≡ 0 → ⊥)

@@ -8,7 +8,7 @@ ghost use Rattle.places.specs.Ahead.{ahead, Standing, Next};
 use rules::Packed;
 
 // Bytes of a packed word, and of a place.
-const WORD_BYTES: usize = 8;
+pub const WORD_BYTES: u64 = 8;
 
 // Bits of a bitmap that name places.
 const BITMAP_BITS: u64 = 63;
@@ -40,11 +40,13 @@ pub const START: Run = Run {
 pub fn word_at(f: &[u8], at: u32, k: u32) -> u64
     ensures { result ≡ packed_word f.now at k }
 {
-    reads::read64(f, at as usize + WORD_BYTES * (k as usize))
+    let position = u64::from(at) + WORD_BYTES * u64::from(k);
+    reads::read64(f, position as usize)
 }
 
-// The next place. Words that name none are passed over.
-pub fn next_place(f: &[u8], t: Packed, c: Run) -> Run
+// The next place, where the lowest bit left names none. Words that name none are passed over.
+#[inline(never)]
+fn far_place(f: &[u8], t: Packed, c: Run) -> Run
     requires { Standing f.now t c × (0 < length (ahead f.now t c)) }
     ensures { Next f.now t c result }
 {
@@ -54,14 +56,14 @@ pub fn next_place(f: &[u8], t: Packed, c: Run) -> Run
     let mut place = c.at;
     while rest == 0 {
         let w = word_at(f, t.at, words);
-        let run = place + 8 * left;
+        let run = place + WORD_BYTES * left;
         words += 1;
         if w % 2 == 0 {
             return Run {
-                words: words,
+                words,
                 rest: 0,
                 left: 0,
-                at: std::num::wrapping_add_u64(w, 8),
+                at: w.wrapping_add(WORD_BYTES),
                 place: w,
             };
         }
@@ -69,30 +71,33 @@ pub fn next_place(f: &[u8], t: Packed, c: Run) -> Run
         left = BITMAP_BITS;
         place = run;
     }
-    while rest % 2 == 0 {
-        rest = rest / 2;
-        left -= 1;
-        place += 8;
-    }
+    let skipped = u64::from(rest.trailing_zeros());
+    let named = rest >> skipped;
+    let left = left - skipped;
+    let place = place + WORD_BYTES * skipped;
     Run {
-        words: words,
-        rest: rest / 2,
+        words,
+        rest: named / 2,
         left: left - 1,
-        at: place + 8,
-        place: place,
+        at: place + WORD_BYTES,
+        place,
     }
 }
 
-// The same where the lowest bit left names a place: no word is read.
-pub fn near_place(f: &[u8], t: Packed, c: Run) -> Run
-    requires { Standing f.now t c × (0 < length (ahead f.now t c)) × (c.rest % 2 ≡ 1) }
+// The next place. Where the lowest bit left names it, no word is read.
+#[inline]
+pub fn next_place(f: &[u8], t: Packed, c: Run) -> Run
+    requires { Standing f.now t c × (0 < length (ahead f.now t c)) }
     ensures { Next f.now t c result }
 {
-    Run {
-        words: c.words,
-        rest: c.rest / 2,
-        left: c.left - 1,
-        at: c.at + 8,
-        place: c.at,
+    if c.rest % 2 == 1 {
+        return Run {
+            words: c.words,
+            rest: c.rest / 2,
+            left: c.left - 1,
+            at: c.at + WORD_BYTES,
+            place: c.at,
+        };
     }
+    far_place(f, t, c)
 }

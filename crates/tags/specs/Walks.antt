@@ -8,14 +8,6 @@ use Rattle.rules.specs.Choices.{choice_least, choice_limit}
 use Rattle.rules.specs.Plane.{put_tag}
 use Rattle.rules.specs.declared.Global.{Global}
 use Rattle.rules.specs.declared.Cursor.{Cursor}
-use Rattle.rules.specs.declared.Reading.{Reading}
-
--- the global and the cursor of a reading
-abbrev pub global_in : Reading → Global
-global_in r = record { start = r.start; granules = r.granules }
-
-abbrev pub cursor_in : Reading → Cursor
-cursor_in r = record { position = r.position; end = r.end }
 
 -- a walk goes on with the global that was read, and is done where none was
 abbrev pub on_step : {A : Type 0} → Outcome Read → A → (Global → Cursor → A) → A

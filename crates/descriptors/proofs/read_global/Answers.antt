@@ -4,8 +4,19 @@ use native.Mathlib.Omega.{arith}
 use Rattle.descriptors.proofs.Laws.{read_short}
 use Rattle.descriptors.proofs.read_global.Goals as goal
 
-pub returns-then-end-distance : goal.returns-then-end-distance
-returns-then-end-distance c =
+pub overflow_mul-distance : goal.overflow_mul-distance
+overflow_mul-distance c = let n = c.in-Some.ensures in omega (arith, n.small)
+
+pub overflow_add-distance : goal.overflow_add-distance
+overflow_add-distance c = let n = c.in-Some.ensures in omega (arith, n.small)
+
+pub overflow_sub-distance : goal.overflow_sub-distance
+overflow_sub-distance c = let n = c.in-Some.ensures in omega (arith, n.small)
+
+pub returns-then-c-distance : goal.returns-then-c-distance
+returns-then-c-distance c =
     let a = c.args in
-    let n = c.short_at-first.result in
-    rw (read_short a.index a.table.now a.c n.value n.next c.short_at-first.ensures (omega arith) c.if-end-eq0.true (omega arith))
+    let v = c.in-Some.value in
+    let next = c.in-Some.next in
+    let n = c.in-Some.ensures in
+    rw (read_short a.index a.table.now a.c v next n (omega arith) c.if-c-eq0.true (omega (arith, n.small)))

@@ -1,16 +1,30 @@
 -- One byte, two bytes, or not told.
 -- Assumes nothing.
+use Prim.Native.Nat.{◌+◌}
 use native.Mathlib.Omega.{arith}
+use Rattle.rules.proofs.BytesLaws.{got}
 use Rattle.descriptors.proofs.Laws.{one_byte, two_bytes}
 use Rattle.descriptors.proofs.short_at.Goals as goal
+
+pub returns-in_err-get : goal.returns-in_err-get
+returns-in_err-get c = rw c.from_residual.ensures tt
 
 pub returns-then-low-lt-RADIX : goal.returns-then-low-lt-RADIX
 returns-then-low-lt-RADIX c =
     let a = c.args in
-    one_byte a.s.now a.at c.byte_at-low.result (omega arith) c.byte_at-low.ensures (omega arith)
+    let low = got a.s.now a.at c.in_ok-get.field-0 c.in_ok-get.ensures.lookup in
+    one_byte a.s.now a.at c.from-low.result low.0 (rw (c.from-low.ensures, low.1)) (omega arith)
 
-pub returns-then-high-lt-RADIX : goal.returns-then-high-lt-RADIX
-returns-then-high-lt-RADIX c =
+pub returns-in_err-get-2 : goal.returns-in_err-get-2
+returns-in_err-get-2 c = rw c.from_residual-in_err-get-2.ensures tt
+
+pub returns-then-high-eq0 : goal.returns-then-high-eq0
+returns-then-high-eq0 c = tt
+
+pub returns : goal.returns
+returns c =
     let a = c.args in
-    two_bytes a.s.now a.at c.byte_at-low.result c.byte_at-high.result (omega arith) c.byte_at-low.ensures c.byte_at-high.ensures
+    let low = got a.s.now a.at c.in_ok-get.field-0 c.in_ok-get.ensures.lookup in
+    let high = got a.s.now (a.at + 1) c.in_ok-get-2.field-0 c.in_ok-get-2.ensures.lookup in
+    two_bytes a.s.now a.at c.from-low.result c.from-high.result high.0 (rw (c.from-low.ensures, low.1)) (rw (c.from-high.ensures, high.1))
     (omega arith) (omega arith) (omega arith) (omega arith)

@@ -1,18 +1,19 @@
--- `memory::put64` meets its contract: eight stores put the word where it fits, and an array of its bytes is put where it may not.
+-- Eight bytes put the word where it fits, and where it may not they are put as any.
 -- Assumes nothing.
-use mathlib.Core.Path.{ap, ◌∙◌}
-use mathlib.Core.List.{List}
-use Prim.Native.Nat.{ℕ}
+use Prim.Native.Nat.{◌+◌, ◌-◌}
+use mathlib.Core.Path.{refl, ◌∙◌}
 use native.Mathlib.Omega.{arith}
-use borrow.Author.Tests.{leb-true}
-use Rattle.rules.specs.Memory.{over, put, put_word}
+use Rattle.rules.specs.Memory.{put_word}
+use Rattle.memory.proofs.Laws.{word_bytes, part_put}
 use Rattle.memory.proofs.put64.Goals as goal
 
-pub store_word-requires : goal.store_word-requires
-store_word-requires c = omega (arith, leb-true)
+pub returns-then-m-at-ge-WORD_BYTES : goal.returns-then-m-at-ge-WORD_BYTES
+unfolding put_word
+returns-then-m-at-ge-WORD_BYTES c =
+    let a = c.args in
+    let s = c.copy_from_slice.ensures.after ∙ c.to_le_bytes.ensures ∙ word_bytes a.w in
+    rw s (part_put a.at 8 (a.at + 8 - a.at) a.m.now _ (omega arith) refl (omega arith))
 
 pub returns : goal.returns
-unfolding put_word over put
-returns c =
-    let A = c.args in
-    c.put_bytes.ensures ∙ ap (λ (s : List ℕ). put A.m.now A.at s) c.store_word-2.ensures
+unfolding put_word
+returns c = rw (c.put_bytes.ensures, c.to_le_bytes-2.ensures, word_bytes c.args.w)

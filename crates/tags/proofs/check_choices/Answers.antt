@@ -11,9 +11,9 @@ returns-then-choices-globals c =
     let a = c.args in
     let m = a.m in
     let k = counted (globals_of a.f.now m.headers m.descriptors) m.globals c.requires in
-    c.refused.ensures
-    ∙ sym (choices_wrong a.f.now m.headers m.descriptors (globals_in a.f.now m) k.0 a.choices.now m.globals k.1
-    c.if-choices-globals.true)
+    rw (c.at.ensures, c.from.ensures)
+    (sym (choices_wrong a.f.now m.headers m.descriptors (globals_in a.f.now m) k.0 a.choices.now m.globals k.1
+    c.if-choices-globals.true))
 
 pub returns : goal.returns
 returns c =

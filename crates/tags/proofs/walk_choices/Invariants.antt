@@ -10,6 +10,3 @@ abbrev pub invariant-loop-i : goal.invariant-loop-i
 invariant-loop-i l =
     (l.i ≤ l.globals)
     × (choices_from l.table l.choices l.globals 0 0 table_start ≡ choices_from l.table l.choices (l.globals - l.i) l.i l.last l.c)
-
-abbrev pub decreases-loop-i : goal.decreases-loop-i
-decreases-loop-i l = l.globals - l.i

@@ -12,6 +12,3 @@ invariant-loop-i l =
     (l.i ≤ l.globals)
     × (tagged_from l.table l.choices l.initial.plane l.globals 0 table_start ≡ tagged_from l.table l.choices l.plane (l.globals - l.i) l.i l.c)
     × (length l.plane ≡ length l.initial.plane)
-
-abbrev pub decreases-loop-i : goal.decreases-loop-i
-decreases-loop-i l = l.globals - l.i
