@@ -1,67 +1,34 @@
 -- One item: what its tests come to.
 -- Assumes nothing.
-use Rattle.std.specs.Prelude.{Some, None}
 use Prim.Native.Nat.{ℕ, ◌%◌, ◌≤◌, ◌<◌}
-use mathlib.Core.Path.{◌≡◌, refl, sym, ◌∙◌}
-use mathlib.Core.Bool.{Bool, true, false, cond}
+use mathlib.Core.Path.{◌≡◌, sym, ◌∙◌}
+use mathlib.Core.Bool.{true, false}
 use mathlib.Core.List.{List}
 use native.Mathlib.Omega.{arith}
-use lib.IntN.{ℤ}
 use lib.Dec.{eqb}
 use borrow.Author.Tests.{eq-eqb, ne_eqb}
 use Rattle.rules.specs.Outcome.{good}
 use Rattle.rules.specs.Limits.{memory_limit}
 use Rattle.rules.specs.Segments.{loads_check}
-use Rattle.rules.specs.Addresses.{address_of, out_of_range, natural, address_at, bad_address}
-use Rattle.rules.specs.Answers.{in_range}
+use Rattle.rules.specs.Addresses.{address_of, out_of_range, address_at, bad_address}
+use Rattle.rules.specs.Answers.{number_of}
 use Rattle.rules.specs.Relocations.{place_at, kind_at, symbol_at, live, target, target_at, barred, place_fits}
 use Rattle.rules.specs.Image.{loaded_at}
+use Rattle.rules.specs.declared.Reason.{Reason}
+use Rattle.rules.specs.declared.Reason.TheVariants as reason
 use Rattle.rules.specs.declared.Headers.{Headers}
 use Rattle.rules.specs.declared.Module.{Module}
 use Rattle.rules.specs.declared.Target.{Target}
 use Rattle.rules.specs.declared.Target.TheVariants.{Defined}
-use Rattle.rules.proofs.OutcomeLaws.{never, true_false, and_right}
+use Rattle.rules.proofs.OutcomeLaws.{and_right}
 use Rattle.laws.proofs.Loads.{end_limit, in_memory_holds}
 use Rattle.laws.proofs.Items.{entry-live, entry-target, packed_addend, packed-target}
-use Rattle.segments.specs.Spans.{Sound, Held}
-use Rattle.segments.specs.declared.Span.{Span}
-use Rattle.segments.proofs.SpanLaws.{sound_none}
-use Rattle.judging.specs.Judges.{item_fault, Fitted, Judges}
+use Rattle.segments.specs.Spans.{Sound}
+use Rattle.judging.specs.Judges.{item_fault, Relocates}
+use Rattle.judging.specs.declared.Word.{Word}
 
--- an address out of range, as the answer tells it
-pub outside_out : (z : ℤ) → in_range z ≡ None → out_of_range z ≡ true
-outside_out z e = go (out_of_range z) e
-  where
-    go : (b : Bool) → cond b None (Some (natural z)) ≡ None → b ≡ true
-    go true q = refl
-    go false q = search never
-
-pub at_in : (z : ℤ) (a : ℕ) → in_range z ≡ Some a → out_of_range z ≡ false
-at_in z a e = go (out_of_range z) e
-  where
-    go : (b : Bool) → cond b None (Some (natural z)) ≡ Some a → b ≡ false
-    go true q = search never
-    go false q = refl
-
--- whether a place fits, by its two tests
+-- a place that fits is low
 module _ (f : List ℕ) (h : Headers) (p : ℕ) where
-  pub unfit_odd : (s : Span) → (p % 8 ≡ 0 → ⊥) → s.size ≡ 0 → Fitted f h p s
-  unfolding place_fits
-  unfit_odd s e z = record {
-    sound = sound_none f h true s z;
-    none = λ _. rw (ne_eqb (p % 8) 0 e);
-    some = λ l. absurd (omega arith);
-  }
-
-  pub fitted_held : (s : Span) → p % 8 ≡ 0 → Held f h true p 8 s → Fitted f h p s
-  unfolding place_fits
-  fitted_held s e t = record {
-    sound = t.sound;
-    none = λ z. rw (eq-eqb (p % 8) 0 e) (t.none z);
-    some = λ l. rw (eq-eqb (p % 8) 0 e) (t.some l);
-  }
-
-  -- a place that fits is low
   pub place_low : loads_check f h ≡ good tt → place_fits f h p ≡ true → p ≤ memory_limit
   unfolding place_fits
   place_low passed e =
@@ -71,39 +38,38 @@ module _ (f : List ℕ) (h : Headers) (p : ℕ) where
 
 -- ---- what is found of an item
 
-module _ (f : List ℕ) (m : Module) (bias i : ℕ) (last : Span) (sound : Sound f m.headers true last) where
-  pub judged_skipped : live f m i ≡ false → Judges f m bias i (record { number = 0; kept = false; place = 0; outside = false; span = last })
+-- no reason has number 0
+pub number_some : (r : Reason) → number_of r ≡ 0 → ⊥
+number_some reason.Length e = absurd (omega arith)
+number_some reason.Identification e = absurd (omega arith)
+number_some reason.Header e = absurd (omega arith)
+number_some reason.Load e = absurd (omega arith)
+number_some reason.Dynamic e = absurd (omega arith)
+number_some reason.Entry e = absurd (omega arith)
+number_some reason.Table e = absurd (omega arith)
+number_some reason.Descriptor e = absurd (omega arith)
+number_some reason.Global e = absurd (omega arith)
+number_some reason.Target e = absurd (omega arith)
+number_some reason.Place e = absurd (omega arith)
+number_some reason.Lending e = absurd (omega arith)
+number_some reason.Address e = absurd (omega arith)
+number_some reason.Choice e = absurd (omega arith)
+number_some reason.Packed e = absurd (omega arith)
+number_some reason.LongForm e = absurd (omega arith)
+
+module _ (f : List ℕ) (m : Module) (bias i : ℕ) (z : live f m i ≡ true) where
+  pub fault-barred : barred (target_at f m i) ≡ true → 10 ≡ item_fault f m i
+  unfolding item_fault
+  fault-barred b = rw (z, b)
+
+  pub fault_misfit : barred (target_at f m i) ≡ false → place_fits f m.headers (place_at f m i) ≡ false → 11 ≡ item_fault f m i
+  unfolding item_fault
+  fault_misfit b p = rw (z, b, p)
+
+  pub relocates : (w : Word) → barred (target_at f m i) ≡ false → place_at f m i ≡ w.place → place_fits f m.headers w.place ≡ true
+      → w.outside ≡ out_of_range (address_at f m bias i) → Sound f m.headers true w.span → Relocates f m bias i w
   unfolding item_fault bad_address
-  judged_skipped z = record { fault = rw z; kept = λ _. sym z; place = λ _ k. true_false (sym k); outside = λ _. rw z; sound = sound }
-
-  -- a fault and what stands beside it
-  faulty_judged : (number : ℕ) → (number ≡ 0 → ⊥) → number ≡ item_fault f m i
-      → Judges f m bias i (record { number = number; kept = true; place = 0; outside = true; span = last })
-  faulty_judged number some e = record {
-    fault = e;
-    kept = λ z. absurd (some z);
-    place = λ z. absurd (some z);
-    outside = λ z. absurd (some z);
-    sound = sound;
-  }
-
-  module _ (z : live f m i ≡ true) where
-    pub judged-barred : barred (target_at f m i) ≡ true
-        → Judges f m bias i (record { number = 10; kept = true; place = 0; outside = true; span = last })
-    unfolding item_fault
-    judged-barred b = faulty_judged 10 (λ q. omega arith) (rw (z, b))
-
-    pub judged_misfit : barred (target_at f m i) ≡ false → place_fits f m.headers (place_at f m i) ≡ false
-        → Judges f m bias i (record { number = 11; kept = true; place = 0; outside = true; span = last })
-    unfolding item_fault
-    judged_misfit b p = faulty_judged 11 (λ q. omega arith) (rw (z, b, p))
-
-    pub judged_good : (place : ℕ) (outside : Bool) → barred (target_at f m i) ≡ false
-        → place_at f m i ≡ place → place_fits f m.headers place ≡ true → outside ≡ out_of_range (address_at f m bias i)
-        → Judges f m bias i (record { number = 0; kept = true; place = place; outside = outside; span = last })
-    unfolding item_fault bad_address
-    judged_good place outside b e p o =
-        record { fault = rw (z, b, e, p); kept = λ _. sym z; place = λ _ _. sym e; outside = λ _. rw z o; sound = sound }
+  relocates w b e p o s = record { fault = rw (z, b, e, p); kept = z; place = sym e; outside = rw z o; sound = s }
 
 -- ---- an entry
 
