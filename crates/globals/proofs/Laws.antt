@@ -15,7 +15,7 @@ use Rattle.rules.specs.Answers.{count_of}
 use Rattle.rules.specs.declared.Headers.{Headers}
 use Rattle.rules.specs.declared.Global.{Global}
 use Rattle.rules.specs.declared.Cursor.{Cursor}
-use Rattle.rules.specs.declared.Reading.{Reading}
+use Rattle.std.specs.Prelude.{Some, None}
 use Rattle.laws.proofs.Globals.{step_next}
 use Rattle.segments.specs.Spans.{Sound}
 use Rattle.segments.specs.declared.Span.{Span}
@@ -38,13 +38,6 @@ plus_plus i (bad r) = refl
 plus_good : (i : ℕ) → plus i (good 0) ≡ good i
 plus_good i = ap good (omega arith)
 
--- a global that was read, and the cursor after it
-abbrev pub global_in : Reading → Global
-global_in r = record { start = r.start; granules = r.granules }
-
-abbrev pub cursor_after : Reading → Cursor
-cursor_after r = record { position = r.position; end = r.end }
-
 -- the walk at the index i: so many globals are counted, and the PT_LOAD found last is one
 pub record Walking (f : List ℕ) (h : Headers) (s : List ℕ) (c : Cursor) (holder : Span) (i : ℕ) : Type 0 where
   pub most : i ≤ global_limit
@@ -56,42 +49,50 @@ module _ (f : List ℕ) (h : Headers) (s : List ℕ) where
   walking_start holder e = record { most = omega arith; counted = sym (plus_zero _); sound = sound_none f h false holder e }
 
   -- one turn, by what was read
-  module _ (c : Cursor) (holder : Span) (i : ℕ) (walking : Walking f h s c holder i) (r : Reading) (e : r ≡ reading_of (step_at i s c)) where
-    -- a global's bytes fit
-    pub read_fits : 0 < r.granules → granule * r.granules ≤ address_limit
-    read_fits l =
-        let n = (step_next i s c (global (global_in r) (cursor_after r)) (reading_global (step_at i s c) r e l)).1 in
-        omega (arith, n.limited)
+  module _ (c : Cursor) (holder : Span) (i : ℕ) (walking : Walking f h s c holder i) where
+    module _ (g : Global) (next : Cursor) (e : reading_of (step_at i s c) ≡ Some (g, next)) where
+      -- a global has bytes, and they fit
+      pub read_filled : 0 < g.granules
+      read_filled = (step_next i s c (global g next) (reading_global (step_at i s c) g next e)).1.filled
 
-    -- it lies outside the PT_LOADs
-    pub walking_outside : i < global_limit → 0 < r.granules → in_memory f h false r.start (granule * r.granules) ≡ false
-        → count_of (globals_from f h s global_limit 0 table_start) ≡ refuse 9 i
-    unfolding globals_from
-    walking_outside below l out =
-        let m : global_limit - i ≡ suc (global_limit - (i + 1)) = omega arith in
-        walking.counted ∙ rw (m, reading_global (step_at i s c) r e l, out)
+      pub read_fits : granule * g.granules ≤ address_limit
+      read_fits =
+          let n = (step_next i s c (global g next) (reading_global (step_at i s c) g next e)).1 in
+          omega (arith, n.limited)
 
-    -- or inside one
-    pub walking_next : (next : Span) → i < global_limit → 0 < r.granules → Sound f h false next
-        → in_memory f h false r.start (granule * r.granules) ≡ true → Walking f h s (cursor_after r) next (i + 1)
-    unfolding globals_from
-    walking_next next below l sound in_one =
-        let m : global_limit - i ≡ suc (global_limit - (i + 1)) = omega arith in
-        let rest = globals_from f h s (global_limit - (i + 1)) (i + 1) (cursor_after r) in
-        let after = ap (plus i) (one_more rest) ∙ plus_plus i (count_of rest) in
-        record { most = omega arith; counted = walking.counted ∙ rw (m, reading_global (step_at i s c) r e l, in_one) after; sound = sound }
-      where
-        one_more : (o : Outcome (List Global)) → count_of (and_then o (λ gs. good (global_in r ∷ gs))) ≡ plus 1 (count_of o)
-        one_more (good gs) = ap good (omega arith)
-        one_more (bad q) = refl
+      -- it lies outside the PT_LOADs
+      pub walking_outside : i < global_limit → in_memory f h false g.start (granule * g.granules) ≡ false
+          → count_of (globals_from f h s global_limit 0 table_start) ≡ refuse 9 i
+      unfolding globals_from
+      walking_outside below out =
+          let m : global_limit - i ≡ suc (global_limit - (i + 1)) = omega arith in
+          walking.counted ∙ rw (m, reading_global (step_at i s c) g next e, out)
+
+      -- or inside one
+      pub walking_next : (span : Span) → i < global_limit → Sound f h false span
+          → in_memory f h false g.start (granule * g.granules) ≡ true → Walking f h s next span (i + 1)
+      unfolding globals_from
+      walking_next span below sound in_one =
+          let m : global_limit - i ≡ suc (global_limit - (i + 1)) = omega arith in
+          let rest = globals_from f h s (global_limit - (i + 1)) (i + 1) next in
+          let after = ap (plus i) (one_more rest) ∙ plus_plus i (count_of rest) in
+          record {
+            most = omega arith;
+            counted = walking.counted ∙ rw (m, reading_global (step_at i s c) g next e, in_one) after;
+            sound = sound;
+          }
+        where
+          one_more : (o : Outcome (List Global)) → count_of (and_then o (λ gs. good (g ∷ gs))) ≡ plus 1 (count_of o)
+          one_more (good gs) = ap good (omega arith)
+          one_more (bad q) = refl
 
     -- no global was read: the table's end, or a refusal
-    pub walking_finish : i < global_limit → r.granules ≡ 0
+    pub walking_finish : i < global_limit → reading_of (step_at i s c) ≡ None
         → count_of (globals_from f h s global_limit 0 table_start) ≡ and_then (step_at i s c) (λ _. good i)
     unfolding globals_from
     walking_finish below z =
         let m : global_limit - i ≡ suc (global_limit - (i + 1)) = omega arith in
-        walking.counted ∙ rw m (go _ (step_at i s c) (reading_none (step_at i s c) r (λ g next k. (step_next i s c (global g next) k).1.filled) e z))
+        walking.counted ∙ rw m (go _ (step_at i s c) (reading_none (step_at i s c) z))
       where
         go : (k : Global → Cursor → Outcome (List Global)) (o : Outcome Read) → ((g : Global) (next : Cursor) → o ≡ good (global g next) → ⊥)
             → plus i (count_of (and_then o (λ r. on_global r k))) ≡ and_then o (λ _. good i)

@@ -24,11 +24,11 @@ use Rattle.tag_pairs.specs.Pairs.{Suited}
 
 -- ---- globals that abut
 
-pub abuts_test : (addresses sizes : List ℕ) (i end a : ℕ) → end ≡ end_at 0 addresses sizes i → a ≡ get_or addresses i 0
-    → (not (eqb i 0) && eqb end a) ≡ abuts_at addresses sizes i
+pub abuts_test : (addresses sizes : List ℕ) (i end : ℕ) → end ≡ end_at 0 addresses sizes i
+    → (not (eqb i 0) && eqb end (get_or addresses i 0)) ≡ abuts_at addresses sizes i
 unfolding abuts_at
-abuts_test addresses sizes zero end a e q = refl
-abuts_test addresses sizes (suc i) end a e q = rw (e, q, ne_eqb (suc i) 0 (λ z. omega arith))
+abuts_test addresses sizes zero end e = refl
+abuts_test addresses sizes (suc i) end e = rw (e, ne_eqb (suc i) 0 (λ z. omega arith))
 
 -- ---- a walk over the globals
 
@@ -41,22 +41,21 @@ pub record Walked (addresses sizes : List ℕ) (i end : ℕ) : Type 0 where
 pub walked_start : (addresses sizes : List ℕ) → list_check 0 0 addresses sizes ≡ good tt → Walked addresses sizes 0 0
 walked_start addresses sizes h = record { below = omega arith; stands = refl; passed = h }
 
-module _ (addresses sizes : List ℕ) (i end a s : ℕ) (w : Walked addresses sizes i end) (p : a ≡ get_or addresses i 0) (q : s ≡ get_or sizes i 0)
-    (l : i < length addresses) (e : length addresses ≡ length sizes) where
+module _ (addresses sizes : List ℕ) (i end : ℕ) (w : Walked addresses sizes i end) (l : i < length addresses) (e : length addresses ≡ length sizes) where
   -- the global of the index i was checked
-  pub walked_low : a + s ≤ address_limit
-  walked_low = rw (p, q) (passed_at addresses sizes i end l (omega arith) w.passed).0.low
+  pub walked_low : get_or addresses i 0 + get_or sizes i 0 ≤ address_limit
+  walked_low = (passed_at addresses sizes i end l (omega arith) w.passed).0.low
 
-  pub walked_next : Walked addresses sizes (i + 1) (a + s)
+  pub walked_next : Walked addresses sizes (i + 1) (get_or addresses i 0 + get_or sizes i 0)
   walked_next = record {
     below = omega arith;
-    stands = rw (p, q, add-one);
-    passed = rw (p, q) (passed_at addresses sizes i end l (omega arith) w.passed).1;
+    stands = rw add-one;
+    passed = (passed_at addresses sizes i end l (omega arith) w.passed).1;
   }
 
   -- whether it abuts on the one before
-  pub walked_abuts : (r : Bool) → r ≡ (not (eqb i 0) && eqb end a) → abuts_at addresses sizes i ≡ r
-  walked_abuts r t = sym (t ∙ abuts_test addresses sizes i end a w.stands p)
+  pub walked_abuts : (r : Bool) → r ≡ (not (eqb i 0) && eqb end (get_or addresses i 0)) → abuts_at addresses sizes i ≡ r
+  walked_abuts r t = sym (t ∙ abuts_test addresses sizes i end w.stands)
 
 -- ---- fewer tags than are needed
 
@@ -111,25 +110,25 @@ module _ (addresses sizes random : List ℕ) (x : ℕ) (e : length addresses ≡
 
   module _ (i end last : ℕ) (b : List ℕ) (k : Picking addresses sizes random x i end last b) (l : i < length addresses) where
     -- a tag suits
-    suited : (a : ℕ) → a ≡ get_or addresses i 0 → tags_needed addresses sizes ≤ tags_allowed x → Suited x (barred_at end last a)
-    suited a p enough =
+    suited : tags_needed addresses sizes ≤ tags_allowed x → Suited x (barred_at end last (get_or addresses i 0))
+    suited enough =
         let w = barred_why addresses sizes b i in
-        let t = enough_suits addresses sizes x i (barred_at end last a) enough l (rw (p, k.walked.stands, k.tagged) w) in
+        let t = enough_suits addresses sizes x i (barred_at end last (get_or addresses i 0)) enough l (rw (k.walked.stands, k.tagged) w) in
         record { tag = t.0; low = t.1.0; fit = t.1.1 }
 
     -- and is picked
-    pub picking_next : (a s r tag : ℕ) → a ≡ get_or addresses i 0 → s ≡ get_or sizes i 0 → r ≡ get_or random i 0
-        → tags_needed addresses sizes ≤ tags_allowed x → (Suited x (barred_at end last a) → tag ≡ pick_of x (barred_at end last a) r)
-        → Picking addresses sizes random x (i + 1) (a + s) tag (set b i tag)
-    picking_next a s r tag p q o enough picked =
+    pub picking_next : (tag : ℕ) → tags_needed addresses sizes ≤ tags_allowed x
+        → (Suited x (barred_at end last (get_or addresses i 0)) → tag ≡ pick_of x (barred_at end last (get_or addresses i 0)) (get_or random i 0))
+        → Picking addresses sizes random x (i + 1) (get_or addresses i 0 + get_or sizes i 0) tag (set b i tag)
+    picking_next tag enough picked =
         let n = k.same in
         record {
-          walked = walked_next addresses sizes i end a s k.walked p q l e;
+          walked = walked_next addresses sizes i end k.walked l e;
           tagged = rw (add-one i) (sym (get_or-set_same b i tag 0 (omega arith)));
           same = rw length-set n;
           gives = put_next b i tag _ ∙ ap (put b i) here ∙ k.gives;
         }
       where
-        here : tag ∷ picks_from x (a + s) tag (drop (i + 1) addresses) (drop (i + 1) sizes) (drop (i + 1) random)
+        here : tag ∷ picks_from x (get_or addresses i 0 + get_or sizes i 0) tag (drop (i + 1) addresses) (drop (i + 1) sizes) (drop (i + 1) random)
             ≡ picks_from x end last (drop i addresses) (drop i sizes) (drop i random)
-        here = rw (picked (suited a p enough), p, q, o) (sym (picks_at addresses sizes random i l (omega arith) (omega arith) x end last))
+        here = rw (picked (suited enough)) (sym (picks_at addresses sizes random i l (omega arith) (omega arith) x end last))

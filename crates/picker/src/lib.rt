@@ -1,125 +1,99 @@
 // Picks a tag for each global of a list.
 #![tactic(auto)]
 
-ghost use Rattle.std.specs.Prelude.{◌≡◌, not, ◌&&◌, ◌≤◌, leb, eqb, length};
-ghost use Rattle.rules.specs.Outcome.{good, refuse};
+ghost use Rattle.std.specs.Prelude.{◌≡◌, not, ◌&&◌, ◌≤◌, leb, eqb, length, IfOk};
+ghost use Rattle.rules.specs.Outcome.{passed};
 ghost use Rattle.rules.specs.First.{some_below};
-ghost use Rattle.rules.specs.Writer.{list_check};
 ghost use Rattle.rules.specs.Picker.{picks_of, abuts_at, tags_needed, tags_allowed};
-ghost use Rattle.rules.specs.Answers.{of_checked, of_picks};
+ghost use Rattle.rules.specs.Answers.{of_list_result};
 ghost use Rattle.demands.specs.Picker.{PickCall};
 ghost use Rattle.picker.specs.Checking.{checks_of};
 
-use rules::{Checked, PicksAnswer, Refusal, UNTAGGED};
-
-// The refusal numbers that are the picker's own.
-const UNEQUAL_LISTS: u8 = 7;
-
-const FEW_TAGS: u8 = 8;
-
-fn refused(number: u8) -> Checked
-    ensures { of_checked result ≡ refuse number 0 }
-{
-    let r = Refusal {
-        number: number,
-        position: 0,
-    };
-    Checked::Refused(r)
-}
+use rules::{ListReason, ListRefusal, UNTAGGED};
+use writer::{Checked, Globals};
 
 // A global, not the first, starts where the one before ends.
 fn abuts(i: usize, end: u64, address: u64) -> bool
     ensures { result ≡ (not (eqb i 0) && eqb end address) }
 {
-    if i == 0 {
-        return false;
-    }
-    end == address
+    i != 0 && end == address
 }
 
 // Some global does.
-fn some_abut(addresses: &[u64], sizes: &[u64]) -> bool
-    requires equal { length addresses.now ≡ length sizes.now }
-    requires passed { list_check 0 0 addresses.now sizes.now ≡ good tt }
-    ensures { result ≡ some_below (abuts_at addresses.now sizes.now) (length addresses.now) }
+fn some_abut(checked: Checked) -> bool
+    ensures { result ≡ some_below (abuts_at checked.entry.globals.addresses.now checked.entry.globals.sizes.now) (length checked.entry.globals.addresses.now) }
 {
+    let Globals { addresses, sizes } = checked.globals;
     let mut end: u64 = 0;
-    for i in 0..addresses.len() {
-        let address = writer::element(addresses, i);
+    for (i, &address) in addresses.iter().enumerate() {
         if abuts(i, end, address) {
             return true;
         }
-        end = address + writer::element(sizes, i);
+        end = address + sizes[i];
     }
     false
 }
 
 // There are fewer tags than the globals need. Two are enough for any.
-fn are_few(tags: u8, addresses: &[u64], sizes: &[u64]) -> bool
-    requires equal { length addresses.now ≡ length sizes.now }
-    requires passed { list_check 0 0 addresses.now sizes.now ≡ good tt }
-    ensures { result ≡ not (leb (tags_needed addresses.now sizes.now) tags) }
+fn are_few(tags: u8, checked: Checked) -> bool
+    ensures { result ≡ not (leb (tags_needed checked.entry.globals.addresses.now checked.entry.globals.sizes.now) tags) }
 {
     if 1 < tags {
         return false;
     }
-    if addresses.len() == 0 {
+    if checked.globals.addresses.is_empty() {
         return false;
     }
     if tags == 0 {
         return true;
     }
-    some_abut(addresses, sizes)
+    some_abut(checked)
 }
 
 // A tag for each global in turn.
-fn fill_choices(addresses: &[u64], sizes: &[u64], random: &[u8], excluded: u16, choices: &mut [u8])
-    requires equal { length addresses.now ≡ length sizes.now }
-    requires drawn { length addresses.now ≡ length random.now }
-    requires lent { length addresses.now ≡ length choices.old }
-    requires passed { list_check 0 0 addresses.now sizes.now ≡ good tt }
-    requires enough { tags_needed addresses.now sizes.now ≤ tags_allowed excluded }
-    ensures { choices.new ≡ picks_of excluded addresses.now sizes.now random.now }
+fn fill_choices(checked: Checked, random: &[u8], excluded: u16, choices: &mut [u8])
+    requires drawn { length checked.globals.addresses.now ≡ length random.now }
+    requires lent { length checked.globals.addresses.now ≡ length choices.old }
+    requires enough { tags_needed checked.globals.addresses.now checked.globals.sizes.now ≤ tags_allowed excluded }
+    ensures { choices.new ≡ picks_of excluded checked.entry.globals.addresses.now checked.entry.globals.sizes.now random.now }
 {
+    let Globals { addresses, sizes } = checked.globals;
     let pairs = tag_pairs::pairs_of(excluded);
     let mut end: u64 = 0;
     let mut last: u8 = UNTAGGED;
-    for i in 0..addresses.len() {
-        let address = writer::element(addresses, i);
+    for (i, &address) in addresses.iter().enumerate() {
         last = tag_pairs::pick(&pairs, end == address, last, random[i]);
         choices[i] = last;
-        end = address + writer::element(sizes, i);
+        end = address + sizes[i];
     }
 }
 
 // The checks of the lists and the mask, for so many choices.
-fn check_picks(
-    addresses: &[u64],
-    sizes: &[u64],
+fn check_picks<'a>(
+    addresses: &'a [u64],
+    sizes: &'a [u64],
     random: &[u8],
     excluded: u16,
     room: usize,
-) -> Checked
-    ensures { of_checked result ≡ checks_of addresses.now sizes.now random.now excluded room }
+) -> Result<Checked<'a>, ListRefusal>
+    ensures checked { passed (of_list_result result) ≡ checks_of addresses.now sizes.now random.now excluded room }
+    ensures same { IfOk result (λ c. (c.globals.addresses.now ≡ addresses.now) × (c.globals.sizes.now ≡ sizes.now)) }
 {
     let globals = addresses.len();
     if sizes.len() != globals {
-        return refused(UNEQUAL_LISTS);
+        return Err(ListReason::UnequalPicks.at(0));
     }
     if random.len() != globals {
-        return refused(UNEQUAL_LISTS);
+        return Err(ListReason::UnequalPicks.at(0));
     }
     if room != globals {
-        return refused(UNEQUAL_LISTS);
+        return Err(ListReason::UnequalPicks.at(0));
     }
-    let checked = writer::check_globals(addresses, sizes);
-    let Checked::Passed = checked else {
-        return checked;
-    };
-    if are_few(tag_pairs::count_allowed(excluded), addresses, sizes) {
-        return refused(FEW_TAGS);
+    let checked = Globals { addresses, sizes }.check()?;
+    if are_few(tag_pairs::count_allowed(excluded), checked) {
+        return Err(ListReason::FewTags.at(0));
     }
-    Checked::Passed
+    Ok(checked)
 }
 
 // Picks a tag for each global, by addresses and byte sizes, a random byte each and a mask of excluded tags, and answers how many
@@ -130,13 +104,10 @@ pub fn pick_tags(
     random: &[u8],
     excluded: u16,
     choices: &mut [u8],
-) -> PicksAnswer
-    ensures { PickCall addresses.now sizes.now random.now excluded choices.old choices.new (of_picks result) }
+) -> Result<u64, ListRefusal>
+    ensures { PickCall addresses.now sizes.now random.now excluded choices.old choices.new (of_list_result result) }
 {
-    let checked = check_picks(addresses, sizes, random, excluded, choices.len());
-    if let Checked::Refused(r) = checked {
-        return PicksAnswer::Refused(r);
-    }
-    fill_choices(addresses, sizes, random, excluded, choices);
-    PicksAnswer::Picked(addresses.len() as u64)
+    let checked = check_picks(addresses, sizes, random, excluded, choices.len())?;
+    fill_choices(checked, random, excluded, choices);
+    Ok(addresses.len() as u64)
 }

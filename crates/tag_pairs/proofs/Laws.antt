@@ -16,7 +16,7 @@ use Rattle.rules.specs.First.{first, count_below}
 use Rattle.rules.specs.Picker.{tag_count, allowed, tag_up, suits, pick_of}
 use Rattle.rules.proofs.OutcomeLaws.{true_false, and_left}
 use Rattle.rules.proofs.BoolLaws.{and_false, cond_case}
-use Rattle.rules.proofs.FirstLaws.{first_true, first_below}
+use Rattle.rules.proofs.FirstLaws.{first_is, first_true, first_below}
 use Rattle.laws.proofs.Checks.{le_or_lt}
 use Rattle.laws.proofs.Picks.{up_to, up_reaches, pick_low, pick_is, pick_near, allowed_least}
 use Rattle.tag_pairs.specs.Pairs.{Suited, next_of, Pairs}
@@ -160,6 +160,18 @@ pick_later x s l h some =
     let r = second_pick x 0 s 0 two (up_to s some.tag) (λ j k. absurd (omega arith)) (rw (e, suits_untagged x s) h)
     (rw e (up_none x 0 s some ((s + 1) % tag_count))) (λ _. free) (omega arith) (far_fits x 0 s some) in
     rw e at r
+
+-- the first tag from a start on, by the numbers from the start on that were tried; where none is allowed, the start
+pub pick_found : (x s n : ℕ) → s < tag_count → s ≤ n → n ≤ s + tag_count → (n < s + tag_count → true ≡ allowed x (n % tag_count))
+    → ((k : ℕ) → s ≤ k → k < n → false ≡ allowed x (k % tag_count)) → n % tag_count ≡ pick_of x 0 s
+unfolding pick_of
+pick_found x s n l a b hit none =
+    let k = n - s in
+    let e : tag_up s k ≡ n % tag_count = omega arith in
+    sym e ∙ ap (tag_up s) (first_is (λ j. suits x 0 (tag_up s j)) tag_count k (omega arith)
+    (λ m. rw (e, suits_untagged x (n % tag_count)) (sym (hit (omega arith))))
+    (λ j m. let q : tag_up s j ≡ (s + j) % tag_count = omega arith in
+    rw (q, suits_untagged x ((s + j) % tag_count)) (sym (none (s + j) (omega arith) (omega arith)))))
 
 -- only the start counts
 start_same : (x b random : ℕ) → pick_of x b (random % tag_count) ≡ pick_of x b random

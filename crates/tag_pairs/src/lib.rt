@@ -12,10 +12,7 @@ fn is_allowed(excluded: u16, tag: u8) -> bool
     requires { tag < tag_count }
     ensures { result ≡ allowed excluded tag }
 {
-    if tag == UNTAGGED {
-        return false;
-    }
-    (excluded >> tag) % 2 == 0
+    tag != UNTAGGED && (excluded >> tag) % 2 == 0
 }
 
 // How many tags are allowed.
@@ -36,14 +33,10 @@ fn first_allowed(excluded: u16, start: u8) -> u8
     requires { start < tag_count }
     ensures { result ≡ pick_of excluded 0 start }
 {
-    let mut tag = start;
-    for _tried in 0..TAGS {
-        if is_allowed(excluded, tag) {
-            return tag;
-        }
-        tag = (tag + 1) % TAGS;
+    match (start..start + TAGS).find(|&tag| is_allowed(excluded, tag % TAGS)) {
+        Some(tag) => tag % TAGS,
+        None => start,
     }
-    tag
 }
 
 // Two tags as one number.

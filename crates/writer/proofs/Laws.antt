@@ -8,8 +8,11 @@ use native.Mathlib.Nat.{add_assoc}
 use native.Mathlib.Numerals.{add-one}
 use native.Mathlib.Omega.{arith}
 use lib.ListN.{length, get_or, set, drop, length-append, drop_of_length-le}
-use borrow.Author.Tests.{lt-ltb, le-ltb, ne_eqb}
+use borrow.Author.Tests.{lt-ltb, le-ltb}
+use Rattle.std.specs.Prelude.{Ok, Err}
 use Rattle.rules.specs.Outcome.{good, refuse, and_then}
+use Rattle.rules.specs.Answers.{list_number_of}
+use Rattle.rules.specs.declared.ListReason.{ListReason}
 use Rattle.rules.specs.Checks.{runs}
 use Rattle.rules.specs.Limits.{address_limit}
 use Rattle.rules.specs.Memory.{put}
@@ -18,7 +21,7 @@ use Rattle.rules.specs.Writer.{uleb, descriptor_of, descriptor_after, table_from
 use Rattle.rules.proofs.MemoryLaws.{put-nil, put-cons, put-length, put-append}
 use Rattle.laws.proofs.Encoding.{uleb_last, uleb_more, uleb_low}
 use Rattle.laws.proofs.Listed.{Listed, listed_good, listed_short, check_at, table_at, passed_at}
-use Rattle.writer.specs.Faults.{Judged, measured}
+use Rattle.writer.specs.Faults.{Judgement, Judged, measured}
 
 -- ---- a number
 
@@ -69,14 +72,12 @@ two_written b at distance granules next c after d h one two =
 -- ---- the checks
 
 -- a fault that was judged, and none
-pub judged_bad : (end a s number : ℕ) → Judged end a s number → (number ≡ 0 → ⊥) → (i : ℕ) → runs (listed_checks i end a s) ≡ refuse number i
-judged_bad end a s number j n i = j i ∙ rw (ne_eqb number 0 n)
+pub judged_bad : (end a s : ℕ) (r : Judgement) (reason : ListReason) → Judged end a s r → r ≡ Err reason
+    → (i : ℕ) → runs (listed_checks i end a s) ≡ refuse (list_number_of reason) i
+judged_bad end a s r reason j n i = j i ∙ rw n
 
-pub judged_good : (end a s number : ℕ) → Judged end a s number → number ≡ 0 → (i : ℕ) → runs (listed_checks i end a s) ≡ good tt
-judged_good end a s number j n i = j i ∙ rw n
-
-pub judged-listed : (end a s number : ℕ) → Judged end a s number → number ≡ 0 → Listed end a s
-judged-listed end a s number j n = listed_good 0 end a s (judged_good end a s number j n 0)
+pub judged_good : (end a s : ℕ) (r : Judgement) → Judged end a s r → r ≡ Ok tt → (i : ℕ) → runs (listed_checks i end a s) ≡ good tt
+judged_good end a s r j n i = j i ∙ rw n
 
 -- a descriptor that is counted, or not, is no longer than its global
 pub counted_short : (end a s : ℕ) → Listed end a s → (counted : Bool) (more : ℕ) → more ≡ cond counted (length (descriptor_after end a s)) 0
@@ -100,105 +101,114 @@ module _ (addresses sizes : List ℕ) where
   unfolding table_from
   left_end i end at b l = rw (drop_of_length-le addresses l) (put-nil b at)
 
-  -- the global of the index i, with address a and size s
-  module _ (i end a s : ℕ) (p : a ≡ get_or addresses i 0) (q : s ≡ get_or sizes i 0) (l : i < length addresses) (e : length addresses ≡ length sizes) where
-    check_of : list_check i end (drop i addresses) (drop i sizes)
-        ≡ and_then (runs (listed_checks i end a s)) (λ _. list_check (i + 1) (a + s) (drop (i + 1) addresses) (drop (i + 1) sizes))
-    check_of = rw (p, q) (check_at addresses sizes i l (omega arith) end)
+  -- the global of the index i: its address and its size
+  module _ (i end : ℕ) where
+    abbrev address : ℕ
+    address = get_or addresses i 0
 
-    pub measured_bad : (counted : Bool) (total number : ℕ) → Judged end a s number → (number ≡ 0 → ⊥)
-        → measured addresses sizes counted i end total ≡ refuse number i
-    measured_bad counted total number j n = rw (check_of, judged_bad end a s number j n i)
+    abbrev size : ℕ
+    size = get_or sizes i 0
 
-    -- the descriptors from here on
-    pub left_at : table_from end (drop i addresses) (drop i sizes)
-        ≡ descriptor_after end a s ++ table_from (a + s) (drop (i + 1) addresses) (drop (i + 1) sizes)
-    left_at = rw (p, q) (table_at addresses sizes i l (omega arith) end)
+    -- one that was judged good
+    pub judged_listed : (r : Judgement) → Judged end address size r → r ≡ Ok tt → Listed end address size
+    judged_listed r j n = listed_good 0 end address size (judged_good end address size r j n 0)
 
-    pub left_length : length (table_from end (drop i addresses) (drop i sizes))
-        ≡ length (descriptor_after end a s) + length (table_from (a + s) (drop (i + 1) addresses) (drop (i + 1) sizes))
-    left_length = rw (left_at, length-append)
+    module _ (l : i < length addresses) (e : length addresses ≡ length sizes) where
+      check_of : list_check i end (drop i addresses) (drop i sizes)
+          ≡ and_then (runs (listed_checks i end address size)) (λ _. list_check (i + 1) (address + size) (drop (i + 1) addresses) (drop (i + 1) sizes))
+      check_of = check_at addresses sizes i l (omega arith) end
 
-    -- one global more is checked, and counted or not
-    pub measured_next : (counted : Bool) (total more number : ℕ) → Judged end a s number → number ≡ 0
-        → more ≡ cond counted (length (descriptor_after end a s)) 0
-        → measured addresses sizes counted i end total ≡ measured addresses sizes counted (i + 1) (a + s) (total + more)
-    measured_next true total more number j n m = rw (check_of, judged_good end a s number j n i, left_length, m, add_assoc)
-    measured_next false total more number j n m =
-        let z : total + more ≡ total = omega arith in
-        rw (check_of, judged_good end a s number j n i, z)
+      pub measured_bad : (counted : Bool) (total : ℕ) (r : Judgement) (reason : ListReason) → Judged end address size r → r ≡ Err reason
+          → measured addresses sizes counted i end total ≡ refuse (list_number_of reason) i
+      measured_bad counted total r reason j n = rw (check_of, judged_bad end address size r reason j n i)
 
-    -- checks that pass, here and after it
-    pub passed_here : list_check i end (drop i addresses) (drop i sizes) ≡ good tt
-        → Listed end a s × (list_check (i + 1) (a + s) (drop (i + 1) addresses) (drop (i + 1) sizes) ≡ good tt)
-    passed_here h = rw (p, q) (passed_at addresses sizes i end l (omega arith) h)
+      -- the descriptors from here on
+      pub left_at : table_from end (drop i addresses) (drop i sizes)
+          ≡ descriptor_after end address size ++ table_from (address + size) (drop (i + 1) addresses) (drop (i + 1) sizes)
+      left_at = table_at addresses sizes i l (omega arith) end
 
--- the measuring at the index i: it is the whole one from here on, and no more bytes were counted than the globals have
-pub record Measuring (addresses sizes : List ℕ) (counted : Bool) (i end total : ℕ) : Type 0 where
-  pub below : i ≤ length addresses
-  pub low : end ≤ address_limit
-  pub most : total ≤ end
-  pub rest : measured addresses sizes counted 0 0 0 ≡ measured addresses sizes counted i end total
+      pub left_length : length (table_from end (drop i addresses) (drop i sizes))
+          ≡ length (descriptor_after end address size) + length (table_from (address + size) (drop (i + 1) addresses) (drop (i + 1) sizes))
+      left_length = rw (left_at, length-append)
 
-pub measuring_next : (addresses sizes : List ℕ) (counted : Bool) (i end total a s number more : ℕ) → Measuring addresses sizes counted i end total
-    → a ≡ get_or addresses i 0 → s ≡ get_or sizes i 0 → i < length addresses → length addresses ≡ length sizes
-    → Judged end a s number → number ≡ 0 → more ≡ cond counted (length (descriptor_after end a s)) 0
-    → Measuring addresses sizes counted (i + 1) (a + s) (total + more)
-measuring_next addresses sizes counted i end total a s number more w p q l e j n m =
-    let g = judged-listed end a s number j n in
-    let b = counted_short end a s g counted more m in
-    let t = w.most in
-    let h = g.after in
-    record {
-      below = omega arith;
-      low = g.low;
-      most = omega arith;
-      rest = w.rest ∙ measured_next addresses sizes i end a s p q l e counted total more number j n m;
-    }
+      -- one global more is checked, and counted or not
+      pub measured_next : (counted : Bool) (total more : ℕ) (r : Judgement) → Judged end address size r → r ≡ Ok tt
+          → more ≡ cond counted (length (descriptor_after end address size)) 0
+          → measured addresses sizes counted i end total ≡ measured addresses sizes counted (i + 1) (address + size) (total + more)
+      measured_next true total more r j n m = rw (check_of, judged_good end address size r j n i, left_length, m, add_assoc)
+      measured_next false total more r j n m =
+          let z : total + more ≡ total = omega arith in
+          rw (check_of, judged_good end address size r j n i, z)
 
--- the writing at the index i: the checks of the globals left pass, their bytes fit, and put at the position they give the table
-pub record Left (addresses sizes lent : List ℕ) (i end at : ℕ) (b : List ℕ) : Type 0 where
-  pub counted : i ≤ length addresses
-  pub passed : list_check i end (drop i addresses) (drop i sizes) ≡ good tt
-  pub same : length b ≡ length lent
-  pub fits : length (table_of addresses sizes) ≤ length lent
-  pub whole : at + length (table_from end (drop i addresses) (drop i sizes)) ≡ length (table_of addresses sizes)
-  pub gives : put b at (table_from end (drop i addresses) (drop i sizes)) ≡ put lent 0 (table_of addresses sizes)
+      -- checks that pass, here and after it
+      pub passed_here : list_check i end (drop i addresses) (drop i sizes) ≡ good tt
+          → Listed end address size × (list_check (i + 1) (address + size) (drop (i + 1) addresses) (drop (i + 1) sizes) ≡ good tt)
+      passed_here h = passed_at addresses sizes i end l (omega arith) h
 
--- one descriptor more is written
-pub left_next : (addresses sizes lent : List ℕ) (i end at : ℕ) (b : List ℕ) (a s next : ℕ) (c : List ℕ) → Left addresses sizes lent i end at b
-    → a ≡ get_or addresses i 0 → s ≡ get_or sizes i 0 → i < length addresses → length addresses ≡ length sizes
-    → next ≡ at + length (descriptor_after end a s) → c ≡ put b at (descriptor_after end a s)
-    → Left addresses sizes lent (i + 1) (a + s) next c
-left_next addresses sizes lent i end at b a s next c w p q l e n m =
-    let f = w.whole in
-    let k = left_length addresses sizes i end a s p q l e in
-    let step = put-append b at (descriptor_after end a s) (table_from (a + s) (drop (i + 1) addresses) (drop (i + 1) sizes)) in
-    record {
-      counted = omega arith;
-      passed = (passed_here addresses sizes i end a s p q l e w.passed).1;
-      same = rw (m, put-length) w.same;
-      fits = w.fits;
-      whole = omega arith;
-      gives = rw (m, n) (sym step ∙ rw (← left_at addresses sizes i end a s p q l e) w.gives);
-    }
+  -- the measuring at the index i: it is the whole one from here on, and no more bytes were counted than the globals have
+  pub record Measuring (counted : Bool) (i end total : ℕ) : Type 0 where
+    pub below : i ≤ length addresses
+    pub low : end ≤ address_limit
+    pub most : total ≤ end
+    pub rest : measured addresses sizes counted 0 0 0 ≡ measured addresses sizes counted i end total
 
--- where the writing stands there is room, and the global was checked
-pub left_now : (addresses sizes lent : List ℕ) (i end at : ℕ) (b : List ℕ) (a s : ℕ) → Left addresses sizes lent i end at b
-    → a ≡ get_or addresses i 0 → s ≡ get_or sizes i 0 → i < length addresses → length addresses ≡ length sizes
-    → Listed end a s × (at + length (descriptor_after end a s) ≤ length b)
-left_now addresses sizes lent i end at b a s w p q l e =
-    let f = w.fits in
-    let o = w.whole in
-    let n = w.same in
-    let k = left_length addresses sizes i end a s p q l e in
-    ((passed_here addresses sizes i end a s p q l e w.passed).0, omega arith)
+  pub measuring_next : (counted : Bool) (i end total more : ℕ) (r : Judgement) → Measuring counted i end total
+      → i < length addresses → length addresses ≡ length sizes → Judged end (address i end) (size i end) r → r ≡ Ok tt
+      → more ≡ cond counted (length (descriptor_after end (address i end) (size i end))) 0
+      → Measuring counted (i + 1) (address i end + size i end) (total + more)
+  measuring_next counted i end total more r w l e j n m =
+      let g = judged_listed i end r j n in
+      let b = counted_short end _ _ g counted more m in
+      let t = w.most in
+      let h = g.after in
+      record {
+        below = omega arith;
+        low = g.low;
+        most = omega arith;
+        rest = w.rest ∙ measured_next i end l e counted total more r j n m;
+      }
 
--- all is written
-pub left_done : (addresses sizes lent : List ℕ) (i end at : ℕ) (b : List ℕ) → Left addresses sizes lent i end at b → length addresses ≤ i
-    → (at ≡ length (table_of addresses sizes)) × (b ≡ put lent 0 (table_of addresses sizes))
-unfolding table_from
-left_done addresses sizes lent i end at b w l =
-    let o = w.whole in
-    let z : length (table_from end (drop i addresses) (drop i sizes)) ≡ 0 = rw (drop_of_length-le addresses l) in
-    (omega arith, sym (left_end addresses sizes i end at b l) ∙ w.gives)
+  -- the writing at the index i: the checks of the globals left pass, their bytes fit, and put at the position they give the table
+  pub record Left (lent : List ℕ) (i end at : ℕ) (b : List ℕ) : Type 0 where
+    pub counted : i ≤ length addresses
+    pub passed : list_check i end (drop i addresses) (drop i sizes) ≡ good tt
+    pub same : length b ≡ length lent
+    pub fits : length (table_of addresses sizes) ≤ length lent
+    pub whole : at + length (table_from end (drop i addresses) (drop i sizes)) ≡ length (table_of addresses sizes)
+    pub gives : put b at (table_from end (drop i addresses) (drop i sizes)) ≡ put lent 0 (table_of addresses sizes)
+
+  module _ (lent : List ℕ) (i end at : ℕ) (b : List ℕ) (w : Left lent i end at b) where
+    module _ (l : i < length addresses) (e : length addresses ≡ length sizes) where
+      -- one descriptor more is written
+      pub left_next : (next : ℕ) (c : List ℕ) → next ≡ at + length (descriptor_after end (address i end) (size i end))
+          → c ≡ put b at (descriptor_after end (address i end) (size i end)) → Left lent (i + 1) (address i end + size i end) next c
+      left_next next c n m =
+          let f = w.whole in
+          let k = left_length i end l e in
+          let rest = table_from (address i end + size i end) (drop (i + 1) addresses) (drop (i + 1) sizes) in
+          let step = put-append b at (descriptor_after end (address i end) (size i end)) rest in
+          record {
+            counted = omega arith;
+            passed = (passed_here i end l e w.passed).1;
+            same = rw (m, put-length) w.same;
+            fits = w.fits;
+            whole = omega arith;
+            gives = rw (m, n) (sym step ∙ rw (← left_at i end l e) w.gives);
+          }
+
+      -- where the writing stands there is room, and the global was checked
+      pub left_now : Listed end (address i end) (size i end) × (at + length (descriptor_after end (address i end) (size i end)) ≤ length b)
+      left_now =
+          let f = w.fits in
+          let o = w.whole in
+          let n = w.same in
+          let k = left_length i end l e in
+          ((passed_here i end l e w.passed).0, omega arith)
+
+    -- all is written
+    pub left_done : length addresses ≤ i → (at ≡ length (table_of addresses sizes)) × (b ≡ put lent 0 (table_of addresses sizes))
+    unfolding table_from
+    left_done l =
+        let o = w.whole in
+        let z : length (table_from end (drop i addresses) (drop i sizes)) ≡ 0 = rw (drop_of_length-le addresses l) in
+        (omega arith, sym (left_end i end at b l) ∙ w.gives)

@@ -1,73 +1,55 @@
 // Writes the descriptor table of a list of globals.
 #![tactic(auto)]
 
-ghost use Rattle.std.specs.Prelude.{◌≡◌, cond, ◌+◌, ◌*◌, ◌≤◌, ◌<◌, length, get_or};
-ghost use Rattle.rules.specs.Outcome.{good, refuse};
+ghost use Rattle.std.specs.Prelude.{◌≡◌, cond, ◌+◌, ◌*◌, ◌≤◌, ◌<◌, length, IfOk};
+ghost use Rattle.rules.specs.Outcome.{good, passed};
 ghost use Rattle.rules.specs.Limits.{address_limit, granule};
 ghost use Rattle.rules.specs.Memory.{put};
 ghost use Rattle.rules.specs.Writer.{uleb, descriptor_of, table_of, list_check};
-ghost use Rattle.rules.specs.Answers.{of_checked, of_table};
+ghost use Rattle.rules.specs.Answers.{of_list_result};
 ghost use Rattle.demands.specs.Writer.{WriteCall};
 ghost use Rattle.writer.specs.Faults.{Judged, measured};
 
-use rules::{ADDRESS_LIMIT, Checked, GRANULE, RADIX, Refusal, SIZES, TableAnswer};
+use rules::{ADDRESS_LIMIT, GRANULE, ListReason, ListRefusal, RADIX, SIZES};
 
 // Bytes of a descriptor, at most.
 const DESCRIPTOR_LIMIT: usize = 14;
 
-// No fault, and the refusal numbers in their order.
-const FAULTLESS: u8 = 0;
-
-const UNEQUAL_LISTS: u8 = 1;
-
-const SIZE_ZERO: u8 = 2;
-
-const NO_MULTIPLE: u8 = 3;
-
-const EARLY_START: u8 = 4;
-
-const HIGH_END: u8 = 5;
-
-const SMALL_BUFFER: u8 = 6;
-
-fn refused(number: u8, index: usize) -> TableAnswer
-    ensures { of_table result ≡ refuse number index }
-{
-    let r = Refusal {
-        number: number,
-        position: index as u64,
-    };
-    TableAnswer::Refused(r)
+// A list of globals: the address and the byte size of each.
+#[derive(Clone, Copy)]
+pub struct Globals<'a> {
+    pub addresses: &'a [u64],
+    pub sizes: &'a [u64],
+    pub ghost equal: { length addresses.now ≡ length sizes.now },
 }
 
-// A number of a list.
-pub fn element(list: &[u64], i: usize) -> u64
-    requires { i < length list.now }
-    ensures { result ≡ get_or list.now i 0 }
-{
-    list[i]
+// A list of which every global passes its checks.
+#[derive(Clone, Copy)]
+pub struct Checked<'a> {
+    pub globals: Globals<'a>,
+    pub ghost passed: { list_check 0 0 globals.addresses.now globals.sizes.now ≡ good tt },
 }
 
 // The first fault of a global after one that ends at end.
-fn judge(end: u64, address: u64, size: u64) -> u8
+fn judge(end: u64, address: u64, size: u64) -> Result<(), ListReason>
     ensures { Judged end address size result }
 {
     if size == 0 {
-        return SIZE_ZERO;
+        return Err(ListReason::NoSize);
     }
     if size % GRANULE != 0 {
-        return NO_MULTIPLE;
+        return Err(ListReason::NoMultiple);
     }
     if address % GRANULE != 0 {
-        return NO_MULTIPLE;
+        return Err(ListReason::NoMultiple);
     }
     if address < end {
-        return EARLY_START;
+        return Err(ListReason::EarlyStart);
     }
-    if reads::sum_within(address, size, ADDRESS_LIMIT) {
-        return FAULTLESS;
+    if !reads::sum_within(address, size, ADDRESS_LIMIT) {
+        return Err(ListReason::HighEnd);
     }
-    HIGH_END
+    Ok(())
 }
 
 // Bytes of a number, from the place of its highest bit: seven bits a byte.
@@ -75,7 +57,7 @@ fn uleb_length(value: u64) -> u64
     requires { 0 < value }
     ensures { result ≡ length (uleb value) }
 {
-    (63 - u64::leading_zeros(value) as u64) / 7 + 1
+    (63 - u64::from(value.leading_zeros())) / 7 + 1
 }
 
 // Bytes of a descriptor. Low bits below 8 do not change how many bytes the first number has.
@@ -103,35 +85,32 @@ fn counted_length(counted: bool, distance: u64, granules: u64) -> u64
     0
 }
 
-// Checks each global in turn; the table's length where it is to be counted, else 0.
-fn measure(addresses: &[u64], sizes: &[u64], counted: bool) -> TableAnswer
-    requires { length addresses.now ≡ length sizes.now }
-    ensures { of_table result ≡ measured addresses.now sizes.now counted 0 0 0 }
-{
-    let mut end: u64 = 0;
-    let mut total: u64 = 0;
-    for i in 0..addresses.len() {
-        let address = element(addresses, i);
-        let size = element(sizes, i);
-        let fault = judge(end, address, size);
-        if fault != FAULTLESS {
-            return refused(fault, i);
+impl<'a> Globals<'a> {
+    // Checks each global in turn; the table's length where it is to be counted, else 0.
+    fn measure(self, counted: bool) -> Result<u64, ListRefusal>
+        ensures { of_list_result result ≡ measured self.entry.addresses.now self.entry.sizes.now counted 0 0 0 }
+    {
+        let Globals { addresses, sizes } = self;
+        let mut end: u64 = 0;
+        let mut total: u64 = 0;
+        for (i, &address) in addresses.iter().enumerate() {
+            let size = sizes[i];
+            if let Err(reason) = judge(end, address, size) {
+                return Err(reason.at(i as u64));
+            }
+            total += counted_length(counted, (address - end) / GRANULE, size / GRANULE);
+            end = address + size;
         }
-        total += counted_length(counted, (address - end) / GRANULE, size / GRANULE);
-        end = address + size;
+        Ok(total)
     }
-    TableAnswer::Written(total)
-}
 
-// The checks of each global alone, for others that take such lists.
-pub fn check_globals(addresses: &[u64], sizes: &[u64]) -> Checked
-    requires { length addresses.now ≡ length sizes.now }
-    ensures { of_checked result ≡ list_check 0 0 addresses.now sizes.now }
-{
-    let answer = measure(addresses, sizes, false);
-    match answer {
-        TableAnswer::Written(_) => Checked::Passed,
-        TableAnswer::Refused(r) => Checked::Refused(r),
+    // The checks of each global alone, for others that take such lists.
+    pub fn check(self) -> Result<Checked<'a>, ListRefusal>
+        ensures checked { passed (of_list_result result) ≡ list_check 0 0 self.entry.addresses.now self.entry.sizes.now }
+        ensures same { IfOk result (λ c. c.globals ≡ self.entry) }
+    {
+        self.measure(false)?;
+        Ok(Checked { globals: self })
     }
 }
 
@@ -166,41 +145,39 @@ fn write_descriptor(buffer: &mut [u8], at: usize, distance: u64, granules: u64) 
     write_uleb(buffer, next, granules - 1)
 }
 
-// The table over the front of the buffer; its length.
-fn write_list(addresses: &[u64], sizes: &[u64], buffer: &mut [u8]) -> usize
-    requires equal { length addresses.now ≡ length sizes.now }
-    requires passed { list_check 0 0 addresses.now sizes.now ≡ good tt }
-    requires fits { length (table_of addresses.now sizes.now) ≤ length buffer.old }
-    ensures counted { result ≡ length (table_of addresses.now sizes.now) }
-    ensures written { buffer.new ≡ put buffer.old 0 (table_of addresses.now sizes.now) }
-{
-    let mut end: u64 = 0;
-    let mut at: usize = 0;
-    for i in 0..addresses.len() {
-        let address = element(addresses, i);
-        let size = element(sizes, i);
-        at = write_descriptor(buffer, at, (address - end) / GRANULE, size / GRANULE);
-        end = address + size;
+impl<'a> Checked<'a> {
+    // Writes the table over the front of the buffer; its length.
+    fn write(self, buffer: &mut [u8]) -> usize
+        requires { length (table_of self.globals.addresses.now self.globals.sizes.now) ≤ length buffer.old }
+        ensures counted { result ≡ length (table_of self.entry.globals.addresses.now self.entry.globals.sizes.now) }
+        ensures written { buffer.new ≡ put buffer.old 0 (table_of self.entry.globals.addresses.now self.entry.globals.sizes.now) }
+    {
+        let Globals { addresses, sizes } = self.globals;
+        let mut end: u64 = 0;
+        let mut at: usize = 0;
+        for (i, &address) in addresses.iter().enumerate() {
+            let size = sizes[i];
+            at = write_descriptor(buffer, at, (address - end) / GRANULE, size / GRANULE);
+            end = address + size;
+        }
+        at
     }
-    at
 }
 
 // Writes the table of globals, by addresses and byte sizes, to the front of a buffer, and answers its length. A refusal has the
 // index of the global, and writes nothing. In an ample buffer the length need not be known before.
-pub fn write_table(addresses: &[u64], sizes: &[u64], buffer: &mut [u8]) -> TableAnswer
-    ensures { WriteCall addresses.now sizes.now buffer.old buffer.new (of_table result) }
+pub fn write_table(addresses: &[u64], sizes: &[u64], buffer: &mut [u8]) -> Result<u64, ListRefusal>
+    ensures { WriteCall addresses.now sizes.now buffer.old buffer.new (of_list_result result) }
 {
     if addresses.len() != sizes.len() {
-        return refused(UNEQUAL_LISTS, 0);
+        return Err(ListReason::UnequalLists.at(0));
     }
+    let globals = Globals { addresses, sizes };
     let ample = addresses.len() <= buffer.len() / DESCRIPTOR_LIMIT;
-    let answer = measure(addresses, sizes, !ample);
-    let TableAnswer::Written(needed) = answer else {
-        return answer;
-    };
+    let needed = globals.measure(!ample)?;
     if (buffer.len() as u64) < needed {
-        return refused(SMALL_BUFFER, 0);
+        return Err(ListReason::SmallBuffer.at(0));
     }
-    let length = write_list(addresses, sizes, buffer);
-    TableAnswer::Written(length as u64)
+    let checked = Checked { globals };
+    Ok(checked.write(buffer) as u64)
 }

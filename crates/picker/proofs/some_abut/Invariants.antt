@@ -11,6 +11,3 @@ use Rattle.picker.proofs.some_abut.Given as goal
 abbrev pub invariant-loop-i : goal.invariant-loop-i
 invariant-loop-i l = Walked l.addresses l.sizes l.i l.end
     × (first (abuts_at l.addresses l.sizes) 0 (length l.addresses) ≡ first (abuts_at l.addresses l.sizes) l.i (length l.addresses - l.i))
-
-abbrev pub decreases-loop-i : goal.decreases-loop-i
-decreases-loop-i l = length l.addresses - l.i

@@ -32,13 +32,6 @@ loop-rest-preserved c =
     let a = c.args in
     reading_odd a.f.now a.t c.loop-rest.invariant c.loop-rest-test.true c.word_at-w.ensures (omega arith) c.if-w-eq0.false
 
-pub overflow_shr-named : goal.overflow_shr-named
-overflow_shr-named c =
-    let a = c.args in
-    let l = c.loop-rest in
-    let all = skipped a.f.now a.t l.invariant c.loop-rest-test.false (omega arith) _ refl in
-    omega (arith, all.2)
-
 pub overflow_sub-left : goal.overflow_sub-left
 overflow_sub-left c =
     let a = c.args in
@@ -46,33 +39,12 @@ overflow_sub-left c =
     let all = skipped a.f.now a.t l.invariant c.loop-rest-test.false (omega arith) c.from-skipped.result c.from-skipped.ensures in
     omega (arith, passing_left all.0)
 
-pub overflow_mul-place : goal.overflow_mul-place
-overflow_mul-place c =
-    let a = c.args in
-    let l = c.loop-rest in
-    let all = skipped a.f.now a.t l.invariant c.loop-rest-test.false (omega arith) c.from-skipped.result c.from-skipped.ensures in
-    omega (arith, all.2)
-
-pub overflow_add-place : goal.overflow_add-place
-overflow_add-place c =
-    let a = c.args in
-    let l = c.loop-rest in
-    let all = skipped a.f.now a.t l.invariant c.loop-rest-test.false (omega arith) c.from-skipped.result c.from-skipped.ensures in
-    omega (arith, all.2, l.invariant.standing.low, l.invariant.standing.read)
-
 pub overflow_sub-result : goal.overflow_sub-result
 overflow_sub-result c =
     let a = c.args in
     let l = c.loop-rest in
     let all = skipped a.f.now a.t l.invariant c.loop-rest-test.false (omega arith) c.from-skipped.result c.from-skipped.ensures in
     omega (arith, passing_left all.0)
-
-pub overflow_add-result : goal.overflow_add-result
-overflow_add-result c =
-    let a = c.args in
-    let l = c.loop-rest in
-    let all = skipped a.f.now a.t l.invariant c.loop-rest-test.false (omega arith) c.from-skipped.result c.from-skipped.ensures in
-    omega (arith, all.2, l.invariant.standing.low, l.invariant.standing.read)
 
 pub returns : goal.returns
 returns c =

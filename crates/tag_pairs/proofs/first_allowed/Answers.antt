@@ -1,40 +1,29 @@
--- The loop keeps that the first tag is one from here on.
+-- The first of the numbers from the start on whose tag is allowed, or none of the sixteen.
 -- Assumes nothing.
-use mathlib.Core.Path.{◌≡◌, refl, sym, ap, ◌∙◌}
+use Prim.Native.Nat.{◌+◌, ◌%◌}
+use mathlib.Core.Path.{◌≡◌, ◌∙◌}
+use mathlib.Core.Bool.{true, false}
 use native.Mathlib.Omega.{arith}
-use Rattle.rules.specs.Picker.{tag_count, tag_up, pick_of}
-use Rattle.rules.proofs.FirstLaws.{first_step, first-hit, first_none}
-use Rattle.tag_pairs.proofs.Laws.{suits_untagged}
+use Rattle.std.proofs.Common.{rules, tests}
+use Rattle.std.proofs.lemmas.Iterator.{first_from_Range}
+use Rattle.std.proofs.option.Match.{if_some, if_none}
+use Rattle.rules.specs.Picker.{tag_count, allowed}
+use Rattle.tag_pairs.proofs.Laws.{pick_found}
 use Rattle.tag_pairs.proofs.first_allowed.Goals as goal
 
-pub loop-tried-init : goal.loop-tried-init
-loop-tried-init c = (omega arith, (omega (arith, c.requires), refl))
+pub returns-in-Some : goal.returns-in-Some
+returns-in-Some c =
+    let x = c.args.excluded in
+    let f = if_some _ _ _ c.in-Some.is (first_from_Range _ _ _ c.find.result (λ k. true ≡ allowed x (k % tag_count))
+    (λ k. false ≡ allowed x (k % tag_count)) c.find.ensures.ran
+    (λ k q h. search (rules, tests)) (λ k q h. (search rules, search (rules, tests)))) in
+    pick_found x c.args.start c.in-Some.tag c.requires f.0 (omega (arith, f.1)) (λ _. f.2) f.3
 
-pub is_allowed-requires : goal.is_allowed-requires
-is_allowed-requires c = let e = c.loop-tried.invariant.1.0 in omega arith
-
-pub returns-then-is_allowed : goal.returns-then-is_allowed
-unfolding pick_of
-returns-then-is_allowed c =
-    let a = c.args in
-    let l = c.loop-tried in
-    let hit = rw l.invariant.1.0 at (suits_untagged a.excluded l.tag ∙ sym c.is_allowed.ensures ∙ c.if-is_allowed.true) in
-    l.invariant.1.0 ∙ ap (tag_up a.start) (sym (l.invariant.1.1 ∙ first-hit _ l._tried tag_count (omega arith) hit))
-
-pub overflow_add-tag : goal.overflow_add-tag
-overflow_add-tag c = let e = c.loop-tried.invariant.1.0 in omega arith
-
-pub loop-tried-preserved : goal.loop-tried-preserved
-loop-tried-preserved c =
-    let l = c.loop-tried in
-    let e = l.invariant.1.0 in
-    let miss = rw e at (suits_untagged c.args.excluded l.tag ∙ sym c.is_allowed.ensures ∙ c.if-is_allowed.false) in
-    (omega arith, (omega arith, l.invariant.1.1 ∙ first_step _ l._tried tag_count (omega arith) miss))
-
-pub returns : goal.returns
-unfolding pick_of
-returns c =
-    let a = c.args in
-    let l = c.loop-tried in
-    let n : l._tried ≡ tag_count = omega arith in
-    l.invariant.1.0 ∙ ap (tag_up a.start) (n ∙ sym (l.invariant.1.1 ∙ first_none _ l._tried tag_count (omega arith) (omega arith)))
+pub returns-in-None : goal.returns-in-None
+returns-in-None c =
+    let x = c.args.excluded in
+    let f = if_none _ _ c.in-None.is (first_from_Range _ _ _ c.find.result (λ k. true ≡ allowed x (k % tag_count))
+    (λ k. false ≡ allowed x (k % tag_count)) c.find.ensures.ran
+    (λ k q h. search (rules, tests)) (λ k q h. (search rules, search (rules, tests)))) in
+    let e : c.args.start ≡ (c.args.start + tag_count) % tag_count = omega (arith, c.requires) in
+    e ∙ pick_found x c.args.start (c.args.start + tag_count) c.requires (omega arith) (omega arith) (λ n. absurd (omega arith)) f

@@ -5,9 +5,6 @@ use lib.Count.{leading_top}
 use Rattle.laws.proofs.Encoding.{uleb_bits}
 use Rattle.writer.proofs.uleb_length.Goals as goal
 
-pub overflow_cast-result : goal.overflow_cast-result
-overflow_cast-result c = let top = leading_top 64 c.args.value c.requires c.ranges.value.fits in let e = top.1 in omega arith
-
 pub overflow_sub-result : goal.overflow_sub-result
 overflow_sub-result c = let top = leading_top 64 c.args.value c.requires c.ranges.value.fits in let e = top.1 in omega arith
 
