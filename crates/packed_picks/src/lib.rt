@@ -3,8 +3,6 @@
 
 ghost use Rattle.packing.specs.Exported.{PicksExported};
 
-use rules::PicksAnswer;
-
 // Picks a tag for each global: how many there are × 256, or index × 256 + refusal number with the choices as lent.
 pub fn picks_number(
     addresses: &[u64],
@@ -15,9 +13,5 @@ pub fn picks_number(
 ) -> u64
     ensures { PicksExported addresses.now sizes.now random.now excluded choices.old choices.new result }
 {
-    let answer = picker::pick_tags(addresses, sizes, random, excluded, choices);
-    match answer {
-        PicksAnswer::Picked(globals) => globals * 256,
-        PicksAnswer::Refused(r) => packing::pack_refusal(r),
-    }
+    packing::packed_list_answer(picker::pick_tags(addresses, sizes, random, excluded, choices))
 }

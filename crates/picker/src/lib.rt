@@ -80,13 +80,7 @@ fn check_picks<'a>(
     ensures same { IfOk result (λ c. (c.globals.addresses.now ≡ addresses.now) × (c.globals.sizes.now ≡ sizes.now)) }
 {
     let globals = addresses.len();
-    if sizes.len() != globals {
-        return Err(ListReason::UnequalPicks.at(0));
-    }
-    if random.len() != globals {
-        return Err(ListReason::UnequalPicks.at(0));
-    }
-    if room != globals {
+    if sizes.len() != globals || random.len() != globals || room != globals {
         return Err(ListReason::UnequalPicks.at(0));
     }
     let checked = Globals { addresses, sizes }.check()?;

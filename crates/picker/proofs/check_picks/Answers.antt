@@ -4,23 +4,21 @@ use mathlib.Core.Path.{sym, ◌∙◌}
 use Rattle.rules.proofs.ResultLaws.{passed_up_list}
 use Rattle.picker.proofs.Calls.{unequal_sizes, unequal_random, unequal_choices, checks_global, checks_few, checks_pass}
 use Rattle.picker.proofs.check_picks.Goals as goal
+use Rattle.picker.proofs.check_picks.Goals.{then-sizes-globals-via-then-sizes-globals}
+use Rattle.picker.proofs.check_picks.Goals.{then-sizes-globals-via-else-sizes-globals+then-random-globals}
+use Rattle.picker.proofs.check_picks.Goals.{then-sizes-globals-via-else-sizes-globals+else-random-globals+then-room-globals}
 
 pub returns-then-sizes-globals-clause-checked : goal.returns-then-sizes-globals-clause-checked
 returns-then-sizes-globals-clause-checked c =
     let a = c.args in
-    rw c.at.ensures (sym (unequal_sizes a.addresses.now a.sizes.now a.random.now a.excluded a.room c.if-sizes-globals.true))
-
-pub returns-then-random-globals-clause-checked : goal.returns-then-random-globals-clause-checked
-returns-then-random-globals-clause-checked c =
-    let a = c.args in
-    rw c.at-then-random-globals.ensures
-    (sym (unequal_random a.addresses.now a.sizes.now a.random.now a.excluded a.room c.if-random-globals.true))
-
-pub returns-then-room-globals-clause-checked : goal.returns-then-room-globals-clause-checked
-returns-then-room-globals-clause-checked c =
-    let a = c.args in
-    rw c.at-then-room-globals.ensures
-    (sym (unequal_choices a.addresses.now a.sizes.now a.random.now a.excluded a.room c.if-room-globals.true))
+    rw c.at.ensures (sym (elim c.then-sizes-globals.branch [
+      | then-sizes-globals-via-then-sizes-globals w ↦
+          unequal_sizes a.addresses.now a.sizes.now a.random.now a.excluded a.room w.if-sizes-globals.true
+      | then-sizes-globals-via-else-sizes-globals+then-random-globals w ↦
+          unequal_random a.addresses.now a.sizes.now a.random.now a.excluded a.room w.if-random-globals.true
+      | then-sizes-globals-via-else-sizes-globals+else-random-globals+then-room-globals w ↦
+          unequal_choices a.addresses.now a.sizes.now a.random.now a.excluded a.room w.if-room-globals.true
+    ]))
 
 pub returns-in_err-checked-clause-checked : goal.returns-in_err-checked-clause-checked
 returns-in_err-checked-clause-checked c =
