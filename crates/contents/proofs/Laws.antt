@@ -14,7 +14,6 @@ use Rattle.rules.specs.declared.Packed.{Packed}
 use Rattle.rules.specs.declared.Descriptors.{Descriptors}
 use Rattle.rules.specs.declared.Global.{Global}
 use Rattle.laws.proofs.Stages.{module_with}
-use Rattle.contents.specs.Stages.{globals_stage}
 
 -- a check that goes on with the number of globals goes on with the count
 count_then : {B : Type 0} (o : Outcome (List Global)) (k : ℕ → Outcome B) → and_then o (λ gs. k (length gs)) ≡ and_then (count_of o) k
@@ -22,6 +21,6 @@ count_then (good gs) k = refl
 count_then (bad r) k = refl
 
 pub globals_count : (f : List ℕ) (h : Headers) (d : Dynamic) (r : Relocations) (k : Packed) (t : Descriptors)
-    → globals_stage f h d r k t ≡ and_then (count_of (globals_of f h t)) (λ n. good (module_with f h d r k t n))
-unfolding globals_stage
+    → and_then (globals_of f h t) (λ gs. good (module_with f h d r k t (length gs)))
+    ≡ and_then (count_of (globals_of f h t)) (λ n. good (module_with f h d r k t n))
 globals_count f h d r k t = count_then (globals_of f h t) (λ n. good (module_with f h d r k t n))

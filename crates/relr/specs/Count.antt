@@ -2,18 +2,12 @@
 -- Assumes nothing.
 use Rattle.std.specs.Prelude.{ℕ, ◌-◌, cond, List, length}
 use Rattle.std.specs.Int.Count.{ones}
-use Rattle.rules.specs.Outcome.{Outcome, good, bad, and_then}
+use Rattle.rules.specs.Outcome.{Outcome, good, and_then}
 use Rattle.rules.specs.Packed.{is_place, packed_before, words_check}
-use Rattle.relr.specs.declared.CountAnswer.{CountAnswer}
-use Rattle.relr.specs.declared.CountAnswer.TheVariants as counted
 
 -- how many places a word names, wherever the run stands
 unfoldable pub count_of : ℕ → ℕ
 count_of w = cond (is_place w) 1 (ones w - 1)
-
-abbrev pub of_count : CountAnswer → Outcome ℕ
-of_count (counted.Found n) = good n
-of_count (counted.Refused r) = bad r
 
 -- how many places the words of a table name; or check 15 of its words
 abbrev pub count_in : List ℕ → ℕ → ℕ → ℕ → Outcome ℕ

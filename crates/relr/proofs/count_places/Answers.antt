@@ -11,7 +11,8 @@ returns-then-words-eq0 c = let a = c.args in rw c.if-words-eq0.true (sym (no_wor
 pub returns-then-word_at-ne0 : goal.returns-then-word_at-ne0
 returns-then-word_at-ne0 c =
     let a = c.args in
-    sym (odd_first a.f.now a.at a.words a.entries c.word_at.result (omega arith) c.word_at.ensures c.if-word_at-ne0.true)
+    rw c.at.ensures
+    (sym (odd_first a.f.now a.at a.words a.entries c.word_at.result (omega arith) c.word_at.ensures c.if-word_at-ne0.true))
 
 pub loop-k-init : goal.loop-k-init
 loop-k-init c =
@@ -22,8 +23,9 @@ pub returns-then-total : goal.returns-then-total
 returns-then-total c =
     let l = c.loop-k in
     let a = c.args in
-    sym (counting_over a.f.now a.at a.words a.entries l.k l.total l.invariant c.word_at-w.result c.count_of.result
-    (omega arith) c.word_at-w.ensures c.count_of.ensures (omega arith) (omega arith))
+    rw c.at-then-total.ensures
+    (sym (counting_over a.f.now a.at a.words a.entries l.k l.total l.invariant c.word_at-w.result c.count_of.result
+    (omega arith) c.word_at-w.ensures c.count_of.ensures (omega arith) (omega arith)))
 
 pub loop-k-preserved : goal.loop-k-preserved
 loop-k-preserved c =

@@ -2,6 +2,7 @@
 -- Assumes nothing.
 use native.Mathlib.Omega.{arith}
 use Rattle.rules.specs.Packed.{packed_of}
+use Rattle.rules.proofs.ResultLaws.{passed_up}
 use Rattle.tables.proofs.Laws.{table_size}
 use Rattle.relr.proofs.Laws.{packed_count_lem}
 use Rattle.relr.proofs.find_packed.Goals as goal
@@ -9,37 +10,38 @@ use Rattle.relr.proofs.find_packed.Goals as goal
 pub returns-in_default : goal.returns-in_default
 unfolding packed_of
 returns-in_default c =
-    rw (← c.value_of-address.ensures, ← c.value_of-bytes.ensures, ← c.table_backing-backing.ensures, c.in_default.is)
+    rw (c.at.ensures, ← c.value_of-address.ensures, ← c.value_of-bytes.ensures, ← c.table_backing.ensures, c.in_default.is)
 
 pub overflow_cast-words : goal.overflow_cast-words
 overflow_cast-words c =
     let a = c.args in
     let h = table_size a.f.now a.h c.value_of-address.result c.value_of-bytes.result c.in-Some.at
-    (rw (← c.table_backing-backing.ensures) c.in-Some.is) in
+    (rw (← c.table_backing.ensures) c.in-Some.is) in
     omega arith
 
-pub returns-in-Found : goal.returns-in-Found
+pub returns-in_err-places : goal.returns-in_err-places
 unfolding packed_of
-returns-in-Found c =
+returns-in_err-places c =
     rw (
+      passed_up c.from_residual.result c.in_err-places.field-0.0 c.from_residual.ensures.1,
       ← c.value_of-address.ensures,
       ← c.value_of-bytes.ensures,
-      ← c.table_backing-backing.ensures,
+      ← c.table_backing.ensures,
       c.in-Some.is,
       packed_count_lem,
-      ← c.count_places-counted.ensures,
-      c.in-Found.is,
+      ← c.count_places.ensures,
+      c.in_err-places.was,
     )
 
-pub returns-in-Refused : goal.returns-in-Refused
+pub returns : goal.returns
 unfolding packed_of
-returns-in-Refused c =
+returns c =
     rw (
       ← c.value_of-address.ensures,
       ← c.value_of-bytes.ensures,
-      ← c.table_backing-backing.ensures,
+      ← c.table_backing.ensures,
       c.in-Some.is,
       packed_count_lem,
-      ← c.count_places-counted.ensures,
-      c.in-Refused.is,
+      ← c.count_places.ensures,
+      c.in_ok-places.was,
     )
