@@ -1,13 +1,12 @@
 -- Items in which nothing is wrong: what the few tests tell.
 -- Assumes nothing.
 use Rattle.std.specs.Prelude.{Some}
-use Rattle.std.proofs.Common.{◌≡◌, ℕ, suc, ◌+◌, ◌-◌, ◌*◌, ◌/◌, ◌%◌, ◌^◌, ◌<◌, ◌≤◌, true, false, ◌&&◌, ◌||◌, eqb, List, length, get_or, pos, ◌+ℤ◌, sym}
-use Rattle.std.proofs.Common.{◌∙◌, ⊎_elim, arith, le-ltb, lt-ltb, eq-eqb, ne_eqb, le-leb}
+use Rattle.std.proofs.Common.{◌≡◌, ℕ, ◌+◌, ◌-◌, ◌*◌, ◌/◌, ◌%◌, ◌<◌, ◌≤◌, true, false, ◌&&◌, ◌||◌, eqb, List, length, get_or, sym}
+use Rattle.std.proofs.Common.{◌∙◌, arith, eq-eqb, ne_eqb, le-leb}
 use borrow.Author.Tests.{lt-leb}
 use Rattle.rules.specs.Outcome.{good}
-use Rattle.rules.specs.Limits.{memory_limit, address_limit}
+use Rattle.rules.specs.Limits.{memory_limit}
 use Rattle.rules.specs.Bytes.{le}
-use Rattle.rules.specs.Memory.{signed}
 use Rattle.rules.specs.Segments.{loads_check, covers}
 use Rattle.rules.specs.Relocations.{abs64, glob_dat, relative, entry_at, kind_at, symbol_at, live, place_fits}
 use Rattle.rules.specs.Relocations.{symbol_backing, symbol_of, target_of, named_target, target, target_at, barred}
@@ -16,8 +15,7 @@ use Rattle.rules.specs.declared.Headers.{Headers}
 use Rattle.rules.specs.declared.Module.{Module}
 use Rattle.rules.specs.declared.Target.{Target}
 use Rattle.rules.specs.declared.Target.TheVariants.{Base, Defined}
-use Rattle.rules.proofs.OutcomeLaws.{true_false, and_left, and_right}
-use Rattle.laws.proofs.Checks.{le_or_lt}
+use Rattle.rules.proofs.OutcomeLaws.{true_false, false_true, and_left, and_right}
 use Rattle.laws.proofs.Items.{entry-live, entry_place, entry_addend, entry-target}
 use Rattle.laws.proofs.Loaded.{loaded-backed}
 use Rattle.laws.proofs.Loads.{covers_within, within_covers}
@@ -27,17 +25,6 @@ use Rattle.segments.proofs.SpanLaws.{covers_some}
 use Rattle.parts.specs.Parts.{Parted}
 use Rattle.parts.specs.declared.Part.{Part}
 use Rattle.clear.specs.Clear.{Nears, Aims, Clear, ClearPlace}
-
--- ---- addresses
-
--- the sum modulo 2^64 is below the limit only where the exact sum is an address
-pub wrapped_in : (m a : ℕ) → m < 2 ^ 62 → a < 2 ^ 64 → (m + a) % 2 ^ 64 < address_limit → out_of_range (pos m +ℤ signed a) ≡ false
-wrapped_in m a h k e =
-    ⊎_elim
-    (λ (u : 2 ^ 63 ≤ a).
-    rw (le-ltb a (2 ^ 63) u, le-ltb m (suc (2 ^ 64 - suc a)) (omega arith)) (lt-leb address_limit (m - suc (2 ^ 64 - suc a)) (omega arith)))
-    (λ (u : a < 2 ^ 63). rw (lt-ltb a (2 ^ 63) u) (lt-leb address_limit (m + a) (omega arith)))
-    (le_or_lt (2 ^ 63) a)
 
 -- ---- symbols
 
@@ -79,10 +66,12 @@ module _ (f : List ℕ) (m : Module) (kind symbol : ℕ) where
   unfolding target
   relative-target e z = rw (eq-eqb kind relative e, eq-eqb symbol 0 z)
 
-  pub symbolic_target : (at : ℕ) → (kind ≡ relative → ⊥) → (eqb kind abs64 || eqb kind glob_dat) ≡ true → (symbol ≡ 0 → ⊥)
+  pub symbolic_target : (at : ℕ) → (eqb kind abs64 || eqb kind glob_dat) ≡ true → (symbol ≡ 0 → ⊥)
       → symbol_backing f m.headers symbol m.symbols ≡ Some at → target f m.headers m.symbols kind symbol ≡ target_of (symbol_of f at)
   unfolding target named_target
-  symbolic_target at r e z b = rw (ne_eqb kind relative r, e, ne_eqb symbol 0 z, b)
+  symbolic_target at e z b =
+      let r : kind ≡ relative → ⊥ = λ k. false_true (rw k at e) in
+      rw (ne_eqb kind relative r, e, ne_eqb symbol 0 z, b)
 
 -- kind 0 has no target that is allowed
 target_some : (f : List ℕ) (m : Module) (kind symbol : ℕ) → barred (target f m.headers m.symbols kind symbol) ≡ false → kind ≡ 0 → ⊥

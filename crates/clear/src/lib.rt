@@ -15,7 +15,7 @@ ghost use Rattle.clear.specs.Clear.{Nears, Aims, Clear, ClearPlace};
 
 use items::{ENTRY_BYTES, R_AARCH64_RELATIVE, SHN_LORESERVE, STT_GNU_IFUNC, STT_TLS, SYMBOL_BYTES};
 use parts::Part;
-use rules::{ADDRESS_LIMIT, Entry, Headers, Module, Target};
+use rules::{ADDRESS_LIMIT, Headers, Module, Target};
 use segments::Span;
 
 // The symbols of the file part that has the first one: where they begin in the file, and how many they are.
@@ -36,30 +36,24 @@ pub fn near_symbols(f: &[u8], m: Module) -> Near
     requires { loads_check f.now m.headers ≡ good tt }
     ensures { Nears f.now m result }
 {
-    let symbols = m.symbols;
-    let Entry::Value(table) = symbols else {
+    let Some(table) = m.symbols else {
         return NO_NEAR;
     };
-    let h = m.headers;
-    let part = parts::find_part(f, h, false, table, SYMBOL_BYTES);
-    if reads::holds_range(part.start, part.size, table, SYMBOL_BYTES) {
-        let before = table - part.start;
-        return Near {
-            at: (part.at + before) as u32,
-            count: ((part.size - before) / SYMBOL_BYTES) as u32,
-        };
+    let Some(part) = parts::find_part(f, m.headers, false, table, SYMBOL_BYTES) else {
+        return NO_NEAR;
+    };
+    let before = table - part.start;
+    Near {
+        at: (part.at + before) as u32,
+        count: ((part.size - before) / SYMBOL_BYTES) as u32,
     }
-    NO_NEAR
 }
 
 // A multiple of 8 whose eight bytes are among the size bytes from start on.
 fn fits(start: u64, size: u64, place: u64) -> bool
     ensures { result ≡ (place % 8 == 0 && covers start size place 8) }
 {
-    if place % 8 != 0 {
-        return false;
-    }
-    reads::holds_range(start, size, place, 8)
+    place % 8 == 0 && reads::holds_range(start, size, place, 8)
 }
 
 // A base and a signed addend sum to an address: of a base below 2^62 the sum modulo 2^64 tells it.
@@ -67,7 +61,7 @@ fn is_inside(base: u64, addend: u64) -> bool
     requires { base < 2 ^ 62 }
     ensures { result ≡ true → out_of_range (pos base +ℤ signed addend) ≡ false }
 {
-    std::num::wrapping_add_u64(base, addend) < ADDRESS_LIMIT
+    base.wrapping_add(addend) < ADDRESS_LIMIT
 }
 
 // The bias, a value and a signed addend sum to an address. Values from 2^61 on are not told.
@@ -75,10 +69,7 @@ fn is_value_inside(bias: u64, value: u64, addend: u64) -> bool
     requires { bias < 2 ^ 61 }
     ensures { result ≡ true → out_of_range (address_of bias (Defined value) addend) ≡ false }
 {
-    if FAR <= value {
-        return false;
-    }
-    is_inside(bias + value, addend)
+    value < FAR && is_inside(bias + value, addend)
 }
 
 // The target of a kind and a near symbol, as few tests tell it; Barred where they do not.
@@ -86,38 +77,20 @@ pub fn near_target(f: &[u8], near: Near, kind: u32, symbol: u32) -> Target
     requires { near.at + 24 * near.count ≤ length f.now }
     ensures { (m : Module) → Nears f.now m near → barred result ≡ false → target f.now m.headers m.symbols kind symbol ≡ result }
 {
-    if kind == R_AARCH64_RELATIVE {
-        if symbol == 0 {
-            return Target::Base;
-        }
-        return Target::Barred;
+    if kind == R_AARCH64_RELATIVE && symbol == 0 {
+        return Target::Base;
     }
-    if !items::is_symbolic(kind) {
-        return Target::Barred;
-    }
-    if symbol == 0 {
-        return Target::Barred;
-    }
-    if near.count <= symbol {
+    if !items::is_symbolic(kind) || symbol == 0 || near.count <= symbol {
         return Target::Barred;
     }
     let at = near.at as usize + SYMBOL_BYTES as usize * (symbol as usize);
     let info = reads::byte(f, at + 4);
-    if info % 16 == STT_TLS {
-        return Target::Barred;
-    }
-    if info % 16 == STT_GNU_IFUNC {
-        return Target::Barred;
-    }
     let section = reads::le16(f, at + 6);
-    if section == 0 {
-        return Target::Barred;
+    match (info % 16, section) {
+        (STT_TLS | STT_GNU_IFUNC, _) => Target::Barred,
+        (_, 1..SHN_LORESERVE) => Target::Defined(reads::le64(f, at + 8)),
+        _ => Target::Barred,
     }
-    if SHN_LORESERVE <= section {
-        return Target::Barred;
-    }
-    let value = reads::le64(f, at + 8);
-    Target::Defined(value)
 }
 
 // A target that is told, and whose address with an addend is in range.
@@ -155,10 +128,7 @@ pub fn is_clear_place(f: &[u8], h: Headers, bias: u64, last: Part, place: u64) -
     requires { (loads_check f.now h ≡ good tt) × Parted f.now h true last }
     ensures { result ≡ true → ClearPlace f.now h bias place }
 {
-    if FAR <= bias {
-        return false;
-    }
-    if !fits(last.start, last.size, place) {
+    if FAR <= bias || !fits(last.start, last.size, place) {
         return false;
     }
     let loaded = reads::le64(f, (last.at + (place - last.start)) as usize);

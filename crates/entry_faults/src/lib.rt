@@ -11,7 +11,7 @@ ghost use Rattle.entry_faults.specs.Seen.{Ready, Seeing, Sees};
 
 use clear::{FAR, Near};
 use items::ENTRY_BYTES;
-use rules::Module;
+use rules::{Module, Refusal};
 use segments::{NO_SPAN, Span};
 use tallies::{NOTHING, Tally};
 
@@ -22,14 +22,13 @@ pub struct Passed {
     pub tally: Tally,
 }
 
-// The lowest item with a fault, and what is found of those before it.
+// How far the items have no fault of their own, and what is found of those before.
 #[derive(Clone, Copy)]
 pub struct Seen {
-    // It, or how many items there are.
+    // The lowest item with a fault, or how many items there are.
     pub item: u32,
-    // Its fault, 10 or 11; 0 where there is none.
-    pub number: u8,
-    pub position: u64,
+    // Its refusal, 10 or 11.
+    pub fault: Option<Refusal>,
     pub tally: Tally,
 }
 
@@ -64,15 +63,13 @@ fn pass_entries(
     }
     let n = m.relocations.entries;
     let mut t = seen;
-    let mut i = from;
-    'clear: while i < n {
+    for i in from..n {
         if !clear::is_clear_entry(f, m, bias, near, last, i) {
-            break 'clear;
+            return Passed { item: i, tally: t };
         }
         t = tallies::tally_clear(t, entry_place(f, m, i));
-        i += 1;
     }
-    Passed { item: i, tally: t }
+    Passed { item: n, tally: t }
 }
 
 // The entries of the RELA table: those in which nothing is wrong are passed over, each other one is judged.
@@ -90,24 +87,27 @@ pub fn see_entries(f: &[u8], m: Module, bias: u64) -> Seen
         t = p.tally;
         i = p.item;
         if i < n {
-            let e = judging::judge_entry(f, m, bias, span, i);
-            if e.number != 0 {
-                return Seen {
-                    item: i,
-                    number: e.number,
-                    position: i as u64,
-                    tally: t,
-                };
+            match judging::judge_entry(f, m, bias, span, i) {
+                Ok(Some(word)) => {
+                    t = tallies::tally_word(t, word, i as u64);
+                    span = word.span;
+                }
+                // Skipped.
+                Ok(None) => {}
+                Err(reason) => {
+                    return Seen {
+                        item: i,
+                        fault: Some(reason.at(i as u64)),
+                        tally: t,
+                    };
+                }
             }
-            t = tallies::tally_judged(t, e, i as u64);
-            span = e.span;
             i += 1;
         }
     }
     Seen {
         item: i,
-        number: 0,
-        position: 0,
+        fault: None,
         tally: t,
     }
 }

@@ -2,40 +2,13 @@
 #![tactic(auto)]
 
 ghost use Rattle.std.specs.Prelude.{◌≡◌};
-ghost use Rattle.rules.specs.Examine.{mode_of, switch_of, facts_of, examined_of};
+ghost use Rattle.rules.specs.Examine.{facts_of, examined_of};
 ghost use Rattle.rules.specs.Relocations.{words_of};
-ghost use Rattle.rules.specs.Answers.{of_answer};
+ghost use Rattle.rules.specs.Answers.{of_result};
 
 use rules::{
-    Answer, DT_MEMTAG_HEAP, DT_MEMTAG_MODE, DT_MEMTAG_STACK, Entry, Facts, Mode, Module,
-    ModuleAnswer, NEVER, Switch, WalkAnswer,
+    DT_MEMTAG_HEAP, DT_MEMTAG_MODE, DT_MEMTAG_STACK, Facts, Mode, Module, Refusal, Switch,
 };
-
-// MEMTAG_MODE: 0 synchronous, 1 asynchronous.
-fn mode_of(e: Entry) -> Mode
-    ensures { result ≡ mode_of e }
-{
-    let Entry::Value(value) = e else {
-        return Mode::Absent;
-    };
-    if value == 0 {
-        return Mode::Synchronous;
-    }
-    Mode::Asynchronous
-}
-
-// MEMTAG_HEAP and MEMTAG_STACK: 0 off, 1 on.
-fn switch_of(e: Entry) -> Switch
-    ensures { result ≡ switch_of e }
-{
-    let Entry::Value(value) = e else {
-        return Switch::Absent;
-    };
-    if value == 0 {
-        return Switch::Off;
-    }
-    Switch::On
-}
 
 // The facts of a module whose words the walk has counted.
 pub fn facts_of(f: &[u8], m: Module, words: u32) -> Facts
@@ -43,34 +16,25 @@ pub fn facts_of(f: &[u8], m: Module, words: u32) -> Facts
     ensures { result ≡ facts_of f.now m }
 {
     let d = m.dynamic;
-    let globals = m.globals;
     Facts {
-        mode: mode_of(entries::entry_of(f, d, DT_MEMTAG_MODE)),
-        heap: switch_of(entries::entry_of(f, d, DT_MEMTAG_HEAP)),
-        stack: switch_of(entries::entry_of(f, d, DT_MEMTAG_STACK)),
-        globals: globals,
-        words: words,
+        mode: Mode::from(entries::entry_of(f, d, DT_MEMTAG_MODE)),
+        heap: Switch::from(entries::entry_of(f, d, DT_MEMTAG_HEAP)),
+        stack: Switch::from(entries::entry_of(f, d, DT_MEMTAG_STACK)),
+        globals: m.globals,
+        words,
     }
 }
 
 // Every check before 12, and the facts.
-pub fn examine_file(f: &[u8]) -> Answer
-    ensures { of_answer result ≡ examined_of f.now }
+pub fn examine_file(f: &[u8]) -> Result<Facts, Refusal>
+    ensures { of_result result ≡ examined_of f.now }
 {
+    // The reader's answer is taken apart, and its refusal passed up unchanged: document 01's form between two layers.
     let read = elf::read_module(f);
-    let ModuleAnswer::Found(m) = read else {
-        let ModuleAnswer::Refused(r) = read else {
-            return Answer::Refused(NEVER);
-        };
-        return Answer::Refused(r);
+    let Ok(m) = read else {
+        return Err(read.unwrap_err());
     };
     // No address is judged here, so any bias will do.
-    let walked = relocations::check_relocations(f, m, 0);
-    let WalkAnswer::Found(w) = walked else {
-        let WalkAnswer::Refused(r) = walked else {
-            return Answer::Refused(NEVER);
-        };
-        return Answer::Refused(r);
-    };
-    Answer::Taken(facts_of(f, m, w.words))
+    let walked = relocations::check_relocations(f, m, 0)?;
+    Ok(facts_of(f, m, walked.words))
 }

@@ -35,37 +35,31 @@ fn see_places(f: &[u8], m: Module, bias: u64, entries: Tally) -> Seen
     let mut span = NO_SPAN;
     let mut part = NO_PART;
     let mut run = START;
-    let mut i = m.relocations.entries;
-    while i < n {
-        let p = m.packed;
-        if run.rest % 2 == 1 {
-            run = places::near_place(f, p, run);
-        } else {
-            run = places::next_place(f, p, run);
-        }
+    for i in m.relocations.entries..n {
+        run = places::next_place(f, m.packed, run);
         let position = packed_position(f, m, run, i);
         if clear::is_clear_place(f, h, bias, part, run.place) {
             t = tallies::tally_clear(t, run.place);
         } else {
-            let e = judging::judge_packed(f, m, bias, span, run.place);
-            if e.number != 0 {
-                return Seen {
-                    item: i,
-                    number: e.number,
-                    position: position,
-                    tally: t,
-                };
+            match judging::judge_packed(f, m, bias, span, run.place) {
+                Ok(word) => {
+                    t = tallies::tally_word(t, word, position);
+                    span = word.span;
+                }
+                Err(reason) => {
+                    return Seen {
+                        item: i,
+                        fault: Some(reason.at(position)),
+                        tally: t,
+                    };
+                }
             }
-            t = tallies::tally_judged(t, e, position);
-            span = e.span;
-            part = parts::find_part(f, h, true, run.place, 8);
+            part = parts::find_part(f, h, true, run.place, 8).unwrap_or(NO_PART);
         }
-        i += 1;
     }
     Seen {
-        item: i,
-        number: 0,
-        position: 0,
+        item: n,
+        fault: None,
         tally: t,
     }
 }
@@ -75,10 +69,9 @@ pub fn find_faults(f: &[u8], m: Module, bias: u64) -> Seen
     requires { Ready f.now m }
     ensures { Sees f.now m bias (items m) result }
 {
-    let s = entry_faults::see_entries(f, m, bias);
-    if s.number != 0 {
-        return s;
+    let seen = entry_faults::see_entries(f, m, bias);
+    if seen.fault.is_some() {
+        return seen;
     }
-    let t = s.tally;
-    see_places(f, m, bias, t)
+    see_places(f, m, bias, seen.tally)
 }

@@ -8,18 +8,12 @@ ghost use Rattle.demands.specs.Calls.{buffers};
 ghost use Rattle.packing.specs.Packed.{packed, packed_facts, step_number, step_words};
 ghost use Rattle.packing.specs.Exported.{Exported, TableExported, PicksExported};
 
-use rules::Answer;
-
 // Examines a file: position × 256 + refusal number, or globals × 256.
 #[unsafe(no_mangle)]
 pub extern "C" fn hagolstan_examine(file: &[u8]) -> u64
     ensures { result ≡ packed (examined_of file.now) }
 {
-    let answer = examine::examine_file(file);
-    match answer {
-        Answer::Taken(a) => (a.globals as u64) * 256,
-        Answer::Refused(r) => packing::pack_refusal(r),
-    }
+    packing::packed_answer(examine::examine_file(file))
 }
 
 // The facts of a file in one number, or 0 where examine refuses it.
@@ -27,11 +21,10 @@ pub extern "C" fn hagolstan_examine(file: &[u8]) -> u64
 pub extern "C" fn hagolstan_facts(file: &[u8]) -> u64
     ensures { result ≡ packed_facts (examined_of file.now) }
 {
-    let answer = examine::examine_file(file);
-    let Answer::Taken(a) = answer else {
-        return 0;
-    };
-    packing::facts_number(a)
+    match examine::examine_file(file) {
+        Ok(facts) => packing::facts_number(facts),
+        Err(_) => 0,
+    }
 }
 
 // Loads a module: position × 256 + refusal number, with memory and plane as lent, or globals × 256.

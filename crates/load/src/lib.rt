@@ -2,12 +2,12 @@
 #![tactic(auto)]
 
 ghost use Rattle.std.specs.Prelude.{◌≡◌, length};
-ghost use Rattle.rules.specs.Answers.{of_answer};
+ghost use Rattle.rules.specs.Answers.{of_result};
 ghost use Rattle.demands.specs.Calls.{Call, buffers};
 ghost use Rattle.rela_words.specs.Words.{Placed};
 ghost use Rattle.load.specs.Written.{written_plane, written_memory};
 
-use rules::{Answer, Module, ModuleAnswer, NEVER};
+use rules::{Facts, Module, Refusal};
 
 // The writes: zeros and segments, then tags, then words.
 fn write_load(f: &[u8], m: Module, bias: u64, memory: &mut [u8], plane: &mut [u8], choices: &[u8])
@@ -28,20 +28,15 @@ pub fn load_module(
     memory: &mut [u8],
     plane: &mut [u8],
     choices: &[u8],
-) -> Answer
-    ensures { Call f.now bias choices.now (buffers memory.old plane.old) (buffers memory.new plane.new) (of_answer result) }
+) -> Result<Facts, Refusal>
+    ensures { Call f.now bias choices.now (buffers memory.old plane.old) (buffers memory.new plane.new) (of_result result) }
 {
+    // The reader's answer is taken apart, and its refusal passed up unchanged: document 01's form between two layers.
     let read = elf::read_module(f);
-    let ModuleAnswer::Found(m) = read else {
-        let ModuleAnswer::Refused(q) = read else {
-            return Answer::Refused(NEVER);
-        };
-        return Answer::Refused(q);
+    let Ok(m) = read else {
+        return Err(read.unwrap_err());
     };
-    let answer = checks::check_load(f, m, bias, memory.len() as u64, plane.len() as u64, choices);
-    let Answer::Taken(_) = answer else {
-        return answer;
-    };
+    let facts = checks::check_load(f, m, bias, memory.len() as u64, plane.len() as u64, choices)?;
     write_load(f, m, bias, memory, plane, choices);
-    answer
+    Ok(facts)
 }

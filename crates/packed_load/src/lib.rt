@@ -4,8 +4,6 @@
 ghost use Rattle.demands.specs.Calls.{buffers};
 ghost use Rattle.packing.specs.Exported.{Exported};
 
-use rules::Answer;
-
 // Loads a module: position × 256 + refusal number, with memory and plane as lent, or globals × 256.
 pub fn load_number(
     file: &[u8],
@@ -16,9 +14,5 @@ pub fn load_number(
 ) -> u64
     ensures { Exported file.now bias choices.now (buffers memory.old plane.old) (buffers memory.new plane.new) result }
 {
-    let answer = load::load_module(file, bias, memory, plane, choices);
-    match answer {
-        Answer::Taken(a) => (a.globals as u64) * 256,
-        Answer::Refused(r) => packing::pack_refusal(r),
-    }
+    packing::packed_answer(load::load_module(file, bias, memory, plane, choices))
 }

@@ -4,8 +4,9 @@
 ghost use Rattle.std.specs.Prelude.{◌≡◌, ◌&&◌, ◌+◌, ◌≤◌, ◌<◌, leb, length, get_or};
 ghost use Rattle.rules.specs.Bytes.{le, part};
 ghost use Rattle.rules.specs.Segments.{covers};
+ghost use Rattle.reads.specs.Bytes.{Stands};
 
-// A byte of the list. This and the three after it have no test: a caller knows that they do not pass the end.
+// A byte of the list. This and the numbers of two, four and eight bytes have no test: a caller knows that they do not pass the end.
 pub fn byte(s: &[u8], at: usize) -> u8
     requires { at < length s.now }
     ensures { result ≡ get_or s.now at 0 }
@@ -13,10 +14,15 @@ pub fn byte(s: &[u8], at: usize) -> u8
     s[at]
 }
 
-fn wide(x: u8) -> u64
-    ensures { result ≡ x }
+// The N bytes from a position on.
+fn bytes<const N: usize>(s: &[u8], at: usize) -> [u8; N]
+    requires { at + N ≤ length s.now }
+    ensures { Stands N result s.now at }
 {
-    x as u64
+    let mut front = [0; N];
+    let end = at + N;
+    front.copy_from_slice(&s[at..end]);
+    front
 }
 
 // The number of the two bytes from a position on.
@@ -24,7 +30,7 @@ pub fn le16(s: &[u8], at: usize) -> u16
     requires { at + 2 ≤ length s.now }
     ensures { result ≡ le 2 s.now at }
 {
-    byte(s, at) as u16 + 256 * (byte(s, at + 1) as u16)
+    u16::from_le_bytes(bytes(s, at))
 }
 
 // Of four.
@@ -32,7 +38,7 @@ pub fn le32(s: &[u8], at: usize) -> u32
     requires { at + 4 ≤ length s.now }
     ensures { result ≡ le 4 s.now at }
 {
-    le16(s, at) as u32 + 65536 * (le16(s, at + 2) as u32)
+    u32::from_le_bytes(bytes(s, at))
 }
 
 // Of eight.
@@ -40,7 +46,7 @@ pub fn le64(s: &[u8], at: usize) -> u64
     requires { at + 8 ≤ length s.now }
     ensures { result ≡ le 8 s.now at }
 {
-    le32(s, at) as u64 + 4294967296 * (le32(s, at + 4) as u64)
+    u64::from_le_bytes(bytes(s, at))
 }
 
 // The byte at a position, 0 past the end.
@@ -48,88 +54,50 @@ pub fn byte_at(s: &[u8], at: usize) -> u8
     ensures { result ≡ get_or s.now at 0 }
 {
     if at < s.len() {
-        return byte(s, at);
+        return s[at];
     }
     0
 }
 
-// The number of the two bytes from a position on, where they may pass the end.
-fn cut16(s: &[u8], at: usize) -> u16
-    ensures { result ≡ le 2 s.now at }
+// The N bytes from a position on, of which fewer than N are there: the others are 0.
+fn cut_bytes<const N: usize>(s: &[u8], at: usize) -> [u8; N]
+    ensures { Stands N result s.now at }
 {
-    if s.len() <= at {
-        return 0;
+    let mut front = [0; N];
+    let rest = part_of(s, at, N);
+    front[..rest.len()].copy_from_slice(rest);
+    front
+}
+
+// The N bytes from a position on; those past the end are 0. One test of the position where they do not pass it.
+fn padded_bytes<const N: usize>(s: &[u8], at: usize) -> [u8; N]
+    ensures { Stands N result s.now at }
+{
+    if N <= s.len() && at <= s.len() - N {
+        return bytes(s, at);
     }
-    if s.len() - at < 2 {
-        return byte(s, at) as u16;
-    }
-    le16(s, at)
+    cut_bytes(s, at)
 }
 
 // The number of the two bytes from a position on; bytes past the end are 0.
 pub fn read16(s: &[u8], at: usize) -> u16
     ensures { result ≡ le 2 s.now at }
 {
-    if 2 <= s.len() {
-        if at <= s.len() - 2 {
-            return le16(s, at);
-        }
-        return cut16(s, at);
-    }
-    cut16(s, at)
+    u16::from_le_bytes(padded_bytes(s, at))
 }
 
-// The number of the four bytes from a position on, where they may pass the end.
-fn cut32(s: &[u8], at: usize) -> u32
-    ensures { result ≡ le 4 s.now at }
-{
-    if s.len() <= at {
-        return 0;
-    }
-    if s.len() - at <= 2 {
-        return read16(s, at) as u32;
-    }
-    read16(s, at) as u32 + 65536 * (read16(s, at + 2) as u32)
-}
-
-// The number of the four bytes from a position on; bytes past the end are 0.
+// Of four.
 pub fn read32(s: &[u8], at: usize) -> u32
     ensures { result ≡ le 4 s.now at }
 {
-    if 4 <= s.len() {
-        if at <= s.len() - 4 {
-            return le32(s, at);
-        }
-        return cut32(s, at);
-    }
-    cut32(s, at)
+    u32::from_le_bytes(padded_bytes(s, at))
 }
 
-// The number of the eight bytes from a position on, of which fewer than eight are left.
-fn cut64(s: &[u8], at: usize) -> u64
-    requires { length s.now < at + 8 }
-    ensures { result ≡ le 8 s.now at }
-{
-    let mut value: u64 = 0;
-    let mut end = s.len();
-    while at < end {
-        end -= 1;
-        value = value * 256 + wide(byte(s, end));
-    }
-    value
-}
-
-// The number of the eight bytes from a position on; bytes past the end are 0. One test of the position where they do not pass it.
+// Of eight.
 pub fn read64(s: &[u8], at: usize) -> u64
     ensures { result ≡ le 8 s.now at }
 {
-    if 8 <= s.len() {
-        if at <= s.len() - 8 {
-            return le64(s, at);
-        }
-        return cut64(s, at);
-    }
-    cut64(s, at)
+    u64::from_le_bytes(padded_bytes(s, at))
 }
 
 // The n bytes from a position on, fewer where the end comes first.

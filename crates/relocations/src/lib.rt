@@ -2,39 +2,27 @@
 #![tactic(auto)]
 
 ghost use Rattle.std.specs.Prelude.{◌≡◌};
-ghost use Rattle.rules.specs.Outcome.{refuse};
-ghost use Rattle.rules.specs.Answers.{of_walk};
+ghost use Rattle.rules.specs.Answers.{of_result};
 ghost use Rattle.entry_faults.specs.Seen.{Ready};
 ghost use Rattle.relocations.specs.Walk.{walk_of};
 
-use rules::{Module, Refusal, WalkAnswer, Walked};
-
-fn refused(number: u8, position: u64) -> WalkAnswer
-    ensures { of_walk result ≡ refuse number position }
-{
-    let r = Refusal {
-        number: number,
-        position: position,
-    };
-    WalkAnswer::Refused(r)
-}
+use rules::{Module, Reason, Refusal, Walked};
 
 // Checks 10 and 11, of the lowest item that either refuses: it has a fault of its own, or its place repeats an earlier one's. The items
 // are judged one by one up to the first fault; those before it are searched for a repeat.
-pub fn check_relocations(f: &[u8], m: Module, bias: u64) -> WalkAnswer
+pub fn check_relocations(f: &[u8], m: Module, bias: u64) -> Result<Walked, Refusal>
     requires { Ready f.now m }
-    ensures { of_walk result ≡ walk_of f.now m bias }
+    ensures { of_result result ≡ walk_of f.now m bias }
 {
-    let s = faults::find_faults(f, m, bias);
-    let t = s.tally;
-    let r = repeats::find_repeat(f, m, s.item, t.low, t.top, t.rising);
-    if r.item < s.item {
-        return refused(11, r.position);
+    let seen = faults::find_faults(f, m, bias);
+    let t = seen.tally;
+    if let Some(repeat) = repeats::find_repeat(f, m, seen.item, t.low, t.top, t.rising) {
+        return Err(Reason::Place.at(repeat.position));
     }
-    if s.number != 0 {
-        return refused(s.number, s.position);
+    if let Some(fault) = seen.fault {
+        return Err(fault);
     }
-    WalkAnswer::Found(Walked {
+    Ok(Walked {
         words: t.words,
         outside: t.outside,
     })

@@ -3,6 +3,7 @@
 
 ghost use Rattle.std.specs.Prelude.{◌≡◌};
 ghost use Rattle.rules.specs.Answers.{number_of, list_number_of};
+ghost use Rattle.rules.specs.Examine.{mode_of, switch_of};
 
 use std::fmt;
 
@@ -296,20 +297,44 @@ pub enum Target {
     Barred,
 }
 
-// MEMTAG_MODE.
+// MEMTAG_MODE: 0 synchronous, 1 asynchronous.
 #[derive(Clone, Copy)]
 pub enum Mode {
-    Absent,
-    Synchronous,
-    Asynchronous,
+    Absent = 0,
+    Synchronous = 1,
+    Asynchronous = 2,
 }
 
-// MEMTAG_HEAP and MEMTAG_STACK.
+impl From<Option<u64>> for Mode {
+    ghost from_gives = { λ value mode. mode ≡ mode_of value };
+
+    fn from(value: Option<u64>) -> Mode {
+        match value {
+            None => Mode::Absent,
+            Some(0) => Mode::Synchronous,
+            Some(_) => Mode::Asynchronous,
+        }
+    }
+}
+
+// MEMTAG_HEAP and MEMTAG_STACK: 0 off, 1 on.
 #[derive(Clone, Copy)]
 pub enum Switch {
-    Absent,
-    Off,
-    On,
+    Absent = 0,
+    Off = 1,
+    On = 2,
+}
+
+impl From<Option<u64>> for Switch {
+    ghost from_gives = { λ value switch. switch ≡ switch_of value };
+
+    fn from(value: Option<u64>) -> Switch {
+        match value {
+            None => Switch::Absent,
+            Some(0) => Switch::Off,
+            Some(_) => Switch::On,
+        }
+    }
 }
 
 // The facts of a module.

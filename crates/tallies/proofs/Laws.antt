@@ -1,5 +1,6 @@
 -- What is found of the first items, item by item.
 -- Assumes nothing.
+use Rattle.std.specs.Prelude.{Option, Some, None}
 use Prim.Native.Nat.{ℕ, ◌+◌, ◌≤◌, ◌<◌}
 use mathlib.Core.Path.{◌≡◌, refl, sym, ap, ◌∙◌}
 use mathlib.Core.Bool.{Bool, true, false, cond}
@@ -9,7 +10,7 @@ use native.Mathlib.Omega.{arith}
 use native.Mathlib.Nat.{eq-or-lt_of_le}
 use native.Mathlib.Numerals.{add-one}
 use lib.Dec.{eqb}
-use borrow.Author.Tests.{eq-eqb, ne_eqb, eqb-true}
+use borrow.Author.Tests.{eq-eqb, ne_eqb}
 use Rattle.rules.specs.Limits.{memory_limit}
 use Rattle.rules.specs.First.{first, count_below}
 use Rattle.rules.specs.Relocations.{place_at, live, position_at}
@@ -23,7 +24,7 @@ use Rattle.tallies.specs.Tallies.{mark_of, mark_after, Rises, Tallies, Tallied}
 
 -- ---- a first hit is marked by its position
 
-pub mark_none : (hit : ℕ → Bool) (position : ℕ → ℕ) → mark_of hit position 0 ≡ 0
+pub mark_none : (hit : ℕ → Bool) (position : ℕ → ℕ) → mark_of hit position 0 ≡ None
 unfolding mark_of first
 mark_none hit position = refl
 
@@ -36,28 +37,25 @@ mark_next hit position i =
     (λ (q : first hit 0 i < i). rw (ne_eqb (first hit 0 i) i (λ z. omega arith)) (before (hit i) q))
     (eq-or-lt_of_le (omega (arith, first-le hit i 0))))
   where
-    here : (b : Bool) → cond (eqb (cond b i (i + 1)) (i + 1)) 0 (position (cond b i (i + 1)) + 1) ≡ cond b (position i + 1) 0
+    here : (b : Bool) → cond (eqb (cond b i (i + 1)) (i + 1)) None (Some (position (cond b i (i + 1)))) ≡ cond b (Some (position i)) None
     here true = rw (ne_eqb i (i + 1) (λ z. omega arith))
     here false = rw (eq-eqb (i + 1) (i + 1) refl)
 
     before : (b : Bool) → first hit 0 i < i
-        → cond (eqb (cond b (first hit 0 i) (first hit 0 i)) (i + 1)) 0 (position (cond b (first hit 0 i) (first hit 0 i)) + 1)
-        ≡ cond (eqb (position (first hit 0 i) + 1) 0) (cond b (position i + 1) 0) (position (first hit 0 i) + 1)
-    before true q = rw (ne_eqb (first hit 0 i) (i + 1) (λ z. omega arith), ne_eqb (position (first hit 0 i) + 1) 0 (λ z. omega arith))
-    before false q = rw (ne_eqb (first hit 0 i) (i + 1) (λ z. omega arith), ne_eqb (position (first hit 0 i) + 1) 0 (λ z. omega arith))
+        → cond (eqb (cond b (first hit 0 i) (first hit 0 i)) (i + 1)) None (Some (position (cond b (first hit 0 i) (first hit 0 i))))
+        ≡ Some (position (first hit 0 i))
+    before true q = rw (ne_eqb (first hit 0 i) (i + 1) (λ z. omega arith))
+    before false q = rw (ne_eqb (first hit 0 i) (i + 1) (λ z. omega arith))
 
 -- without a hit a mark stays
-pub mark_same : (mark position : ℕ) → mark_after mark false position ≡ mark
+pub mark_same : (mark : Option ℕ) (position : ℕ) → mark_after mark false position ≡ mark
 unfolding mark_after
-mark_same mark position = go (eqb mark 0) refl
-  where
-    go : (b : Bool) → eqb mark 0 ≡ b → cond b 0 mark ≡ mark
-    go true e = sym (eqb-true mark 0 e)
-    go false e = refl
+mark_same (Some x) position = refl
+mark_same None position = refl
 
 -- ---- the tally
 
-pub tallied_none : (f : List ℕ) (m : Module) (bias : ℕ) (t : Tally) → t.words ≡ 0 → t.outside ≡ 0 → t.top ≡ 0 → t.rising ≡ false
+pub tallied_none : (f : List ℕ) (m : Module) (bias : ℕ) (t : Tally) → t.words ≡ 0 → t.outside ≡ None → t.top ≡ 0 → t.rising ≡ false
     → Tallied f m bias 0 t
 unfolding count_below
 tallied_none f m bias t w o e r = record {

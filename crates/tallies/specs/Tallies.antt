@@ -1,6 +1,6 @@
 -- What is found of the first items: a tally, and how one more item changes it.
 -- Assumes nothing.
-use Rattle.std.specs.Prelude.{ℕ, ◌+◌, ◌≤◌, ◌<◌, ◌≡◌, Bool, true, cond, ◌⊎◌, List, eqb}
+use Rattle.std.specs.Prelude.{ℕ, ◌+◌, ◌≤◌, ◌<◌, ◌≡◌, Bool, true, cond, ◌⊎◌, List, Option, Some, None, eqb}
 use Rattle.rules.specs.Limits.{memory_limit}
 use Rattle.rules.specs.First.{first, count_below}
 use Rattle.rules.specs.Relocations.{live, position_at}
@@ -9,12 +9,13 @@ use Rattle.rules.specs.declared.Module.{Module}
 use Rattle.items.specs.Table.{Bounded, Rising}
 use Rattle.tallies.specs.declared.Tally.{Tally}
 
--- a first hit is marked by one more than its position, none by 0: of n indices, and after one more
-unfoldable pub mark_of : (ℕ → Bool) → (ℕ → ℕ) → ℕ → ℕ
-mark_of hit position n = cond (eqb (first hit 0 n) n) 0 (position (first hit 0 n) + 1)
+-- a first hit is marked by its position: of n indices, and after one more
+unfoldable pub mark_of : (ℕ → Bool) → (ℕ → ℕ) → ℕ → Option ℕ
+mark_of hit position n = cond (eqb (first hit 0 n) n) None (Some (position (first hit 0 n)))
 
-unfoldable pub mark_after : ℕ → Bool → ℕ → ℕ
-mark_after mark hit position = cond (eqb mark 0) (cond hit (position + 1) 0) mark
+unfoldable pub mark_after : Option ℕ → Bool → ℕ → Option ℕ
+mark_after (Some mark) hit position = Some mark
+mark_after None hit position = cond hit (Some position) None
 
 -- the places of a tally rise by eight bytes or more with one more place: there is none before it and the bounds are crossed, or they rise and
 -- it is above

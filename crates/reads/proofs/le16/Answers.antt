@@ -1,9 +1,8 @@
--- Two bytes.
+-- The bytes as the language reads them.
 -- Assumes nothing.
-use Rattle.rules.specs.Bytes.{le}
-use native.Mathlib.Omega.{arith}
+use mathlib.Core.Path.{◌∙◌}
+use Rattle.reads.proofs.Laws.{from16}
 use Rattle.reads.proofs.le16.Goals as goal
 
 pub returns : goal.returns
-unfolding le
-returns c = omega arith
+returns c = c.from_le_bytes.ensures ∙ from16 c.bytes.result c.args.s.now c.args.at c.bytes.ensures

@@ -1,8 +1,8 @@
--- Two halves, by `le_split`.
+-- The bytes as the language reads them.
 -- Assumes nothing.
-use Rattle.rules.proofs.BytesLaws.{le_split}
-use native.Mathlib.Omega.{arith}
+use mathlib.Core.Path.{◌∙◌}
+use Rattle.reads.proofs.Laws.{from32}
 use Rattle.reads.proofs.le32.Goals as goal
 
 pub returns : goal.returns
-returns c = let a = c.args in omega (arith, le_split 2 2 a.s.now a.at)
+returns c = c.from_le_bytes.ensures ∙ from32 c.bytes.result c.args.s.now c.args.at c.bytes.ensures

@@ -1,8 +1,8 @@
--- Two halves, by `le_split`.
+-- The bytes as the language reads them.
 -- Assumes nothing.
-use Rattle.rules.proofs.BytesLaws.{le_split}
-use native.Mathlib.Omega.{arith}
+use mathlib.Core.Path.{◌∙◌}
+use Rattle.reads.proofs.Laws.{from64}
 use Rattle.reads.proofs.le64.Goals as goal
 
 pub returns : goal.returns
-returns c = let a = c.args in omega (arith, le_split 4 4 a.s.now a.at)
+returns c = c.from_le_bytes.ensures ∙ from64 c.bytes.result c.args.s.now c.args.at c.bytes.ensures

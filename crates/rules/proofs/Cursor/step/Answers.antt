@@ -1,8 +1,6 @@
 -- The branches are the definition's tests in its order.
 -- Assumes nothing.
 use native.Mathlib.Omega.{arith}
-use Rattle.rules.specs.Outcome.{mapped}
-use Rattle.rules.specs.Answers.{read_of}
 use Rattle.rules.proofs.ResultLaws.{passed_up}
 use Rattle.rules.proofs.DescriptorLaws.{step_past, step_uneven, step_high, step_reads, step_ends}
 use Rattle.rules.proofs.Cursor.step.Goals as goal

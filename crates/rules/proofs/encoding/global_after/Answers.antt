@@ -4,7 +4,7 @@ use Prim.Native.Nat.{◌+◌}
 use mathlib.Core.Path.{◌≡◌}
 use mathlib.Core.Bool.{false}
 use native.Mathlib.Omega.{arith}
-use borrow.Author.Tests.{ne_eqb, not-true, not-false}
+use borrow.Author.Tests.{not-true, not-false}
 use Rattle.rules.specs.Descriptors.{saying}
 use Rattle.rules.proofs.DescriptorLaws.{judged_long, judged_high, judged_low}
 use Rattle.rules.proofs.encoding.global_after.Goals as goal

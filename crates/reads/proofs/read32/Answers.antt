@@ -1,0 +1,8 @@
+-- The bytes as the language reads them.
+-- Assumes nothing.
+use mathlib.Core.Path.{◌∙◌}
+use Rattle.reads.proofs.Laws.{from32}
+use Rattle.reads.proofs.read32.Goals as goal
+
+pub returns : goal.returns
+returns c = c.from_le_bytes.ensures ∙ from32 c.padded_bytes.result c.args.s.now c.args.at c.padded_bytes.ensures
