@@ -6,11 +6,16 @@ use mathlib.Core.List.{List}
 use Rattle.rules.specs.Outcome.{and_then}
 use Rattle.rules.specs.Headers.{headers_of}
 use Rattle.rules.specs.Segments.{loads_check}
+use Rattle.rules.specs.Dynamic.{dynamic_of, known_tags, entries_check}
 use Rattle.rules.specs.Reader.{module_of}
 use Rattle.laws.proofs.Stages.{module_stages}
-use Rattle.contents.specs.Stages.{globals_stage, packed_stage, tables_stage}
-use Rattle.elf.specs.Stages.{dynamic_stage}
+use Rattle.contents.specs.Stages.{tables_stage}
 
-pub module_dynamic : (f : List ℕ) → module_of f ≡ and_then (headers_of f) (λ h. and_then (loads_check f h) (λ _. dynamic_stage f h))
-unfolding dynamic_stage tables_stage packed_stage globals_stage
-module_dynamic f = module_stages f
+pub module_tables : (f : List ℕ) → module_of f ≡
+    and_then (headers_of f) (λ h.
+    and_then (loads_check f h) (λ _.
+    and_then (dynamic_of f h) (λ d.
+    and_then (entries_check known_tags f d) (λ _.
+    tables_stage f h d))))
+unfolding tables_stage
+module_tables f = module_stages f

@@ -3,49 +3,17 @@
 
 ghost use Rattle.std.specs.Prelude.{◌≡◌};
 ghost use Rattle.rules.specs.Reader.{module_of};
-ghost use Rattle.rules.specs.Answers.{of_module};
-ghost use Rattle.elf.specs.Stages.{dynamic_stage};
+ghost use Rattle.rules.specs.Answers.{of_result};
 
-use rules::{Checked, DynamicAnswer, Headers, HeadersAnswer, ModuleAnswer, NEVER};
-
-// Checks 5 to 7, 15, 8, 16 and 9: the dynamic table, and what it names.
-fn read_dynamic(f: &[u8], h: Headers) -> ModuleAnswer
-    ensures { of_module result ≡ dynamic_stage f.now h }
-{
-    let found = dynamic::find_dynamic(f, h);
-    let DynamicAnswer::Found(d) = found else {
-        let DynamicAnswer::Refused(r) = found else {
-            return ModuleAnswer::Refused(NEVER);
-        };
-        return ModuleAnswer::Refused(r);
-    };
-    let checked = entries::check_entries(f, d);
-    let Checked::Passed = checked else {
-        let Checked::Refused(r) = checked else {
-            return ModuleAnswer::Refused(NEVER);
-        };
-        return ModuleAnswer::Refused(r);
-    };
-    contents::read_tables(f, h, d)
-}
+use rules::{Module, Refusal};
 
 // Checks 1 to 7, 15, 8, 16 and 9: the module of a file.
-pub fn read_module(f: &[u8]) -> ModuleAnswer
-    ensures { of_module result ≡ module_of f.now }
+pub fn read_module(f: &[u8]) -> Result<Module, Refusal>
+    ensures { of_result result ≡ module_of f.now }
 {
-    let found = headers::read_headers(f);
-    let HeadersAnswer::Found(h) = found else {
-        let HeadersAnswer::Refused(r) = found else {
-            return ModuleAnswer::Refused(NEVER);
-        };
-        return ModuleAnswer::Refused(r);
-    };
-    let loads = pt_loads::check_loads(f, h);
-    let Checked::Passed = loads else {
-        let Checked::Refused(r) = loads else {
-            return ModuleAnswer::Refused(NEVER);
-        };
-        return ModuleAnswer::Refused(r);
-    };
-    read_dynamic(f, h)
+    let headers = headers::read_headers(f)?;
+    pt_loads::check_loads(f, headers)?;
+    let dynamic = dynamic::find_dynamic(f, headers)?;
+    entries::check_entries(f, dynamic)?;
+    contents::read_tables(f, headers, dynamic)
 }
