@@ -1,19 +1,24 @@
 -- Tags that are counted and tried, and the table: the first tag that is allowed from each start on, and the one after it.
 -- Assumes nothing.
-use Prim.Native.Nat.{ℕ, ◌+◌, ◌*◌, ◌-◌, ◌/◌, ◌%◌, ◌^◌, ◌≤◌, ◌<◌}
+use Prim.Native.Nat.{ℕ, zero, suc, max, ◌+◌, ◌*◌, ◌-◌, ◌/◌, ◌%◌, ◌^◌, ◌≤◌, ◌<◌}
 use mathlib.Core.Path.{◌≡◌, refl, sym, ap, ◌∙◌}
 use mathlib.Core.Bool.{Bool, true, false, cond, not, ◌&&◌}
 use mathlib.Core.List.{List}
 use mathlib.Core.Logic.{⊎_elim}
-use native.Mathlib.Nat.{eq-or-lt_of_le}
+use native.Mathlib.Nat.{eq-or-lt_of_le, add_comm, mod-lt}
 use native.Mathlib.Numerals.{add-one}
 use native.Mathlib.Omega.{arith}
+use lib.Count.{ones_in, ones, ones_cat}
 use lib.ListN.{length, get_or, set, length-set}
 use lib.Seq.{get_or-set_same, get_or-set_other}
 use lib.Dec.{eqb}
 use borrow.Author.Tests.{eq-eqb, ne_eqb, eqb-true, eqb-false}
+use Rattle.std.specs.Int.{bit_at, bit_not, count_zeros, w16}
+use Rattle.std.specs.Int.Bits.{bit_or}
+use Rattle.std.proofs.lemmas.Nat.{pow_pos, mod-pow-add, or_of_16}
+use Rattle.std.proofs.lemmas.Nat.Bits.{bit_at_or, bit_at_not, bit_at-pow_other}
 use Rattle.rules.specs.First.{first, count_below}
-use Rattle.rules.specs.Picker.{tag_count, allowed, tag_up, suits, pick_of}
+use Rattle.rules.specs.Picker.{tag_count, allowed, tags_allowed, tag_up, suits, pick_of}
 use Rattle.rules.proofs.OutcomeLaws.{true_false, and_left}
 use Rattle.rules.proofs.BoolLaws.{and_false, cond_case}
 use Rattle.rules.proofs.FirstLaws.{first_is, first_true, first_below}
@@ -23,9 +28,43 @@ use Rattle.tag_pairs.specs.Pairs.{Suited, next_of, Pairs}
 
 -- ---- tags
 
-pub count_next : (f : ℕ → Bool) (n : ℕ) → count_below f (n + 1) ≡ count_below f n + cond (f n) 1 0
+-- as many of the lowest k bits are set as there are indices of one that is
+ones_below : (m k : ℕ) → ones (m % 2 ^ k) ≡ count_below (λ i. eqb (bit_at m i) 1) k
+unfolding count_below ones ones_in
+ones_below m zero = let z : m % 1 ≡ 0 = omega arith in rw z refl
+ones_below m (suc k) =
+    let split : m % 2 ^ suc k ≡ bit_at m k * 2 ^ k + m % 2 ^ k = ap (λ (j : ℕ). m % 2 ^ j) (sym (add-one k) ∙ add_comm k 1) ∙ mod-pow-add m 1 k in
+    ap ones split ∙ ones_cat k (bit_at m k) (m % 2 ^ k) (mod-lt m (pow_pos k)) ∙ rw (ones_below m k, one_bit (bit_at m k) (omega arith)) (add_comm _ _)
+  where
+    one_bit : (b : ℕ) → b < 2 → ones b ≡ cond (eqb b 1) 1 0
+    one_bit zero l = refl
+    one_bit (suc zero) l = refl
+    one_bit (suc (suc b)) l = absurd (omega arith)
+
+count_same : (f g : ℕ → Bool) (n : ℕ) → ((i : ℕ) → i < n → f i ≡ g i) → count_below f n ≡ count_below g n
 unfolding count_below
-count_next f n = rw add-one
+count_same f g zero h = refl
+count_same f g (suc n) h = rw (count_same f g n (λ i l. h i (omega arith)), h n (omega arith)) refl
+
+-- a bit is clear beside bit 0, which is set
+clear_bit : (x i : ℕ) → eqb (1 - max (bit_at x i) (bit_at 1 i)) 1 ≡ allowed x i
+unfolding allowed
+clear_bit x zero = let e : 1 - max (bit_at x 0) (bit_at 1 0) ≡ 0 = omega arith in rw e refl
+clear_bit x (suc i) = rw (bit_at-pow_other 0 (suc i) (λ q. omega arith), ne_eqb (suc i) 0 (λ z. omega arith)) (go (bit_at x (suc i)) (omega arith))
+  where
+    go : (b : ℕ) → b < 2 → eqb (1 - max b 0) 1 ≡ (true && eqb b 0)
+    go zero l = refl
+    go (suc zero) l = refl
+    go (suc (suc b)) l = absurd (omega arith)
+
+-- the tags that are allowed are the clear bits, where bit 0 counts as set
+pub clear_allowed : (x : ℕ) → x < 2 ^ 16 → count_zeros w16 (bit_or x 1) ≡ tags_allowed x
+unfolding tags_allowed
+clear_allowed x l =
+    let n = bit_or x 1 in
+    let low : bit_not w16 n % 2 ^ 16 ≡ bit_not w16 n = omega arith in
+    ap ones (sym low) ∙ ones_below (bit_not w16 n) 16 ∙ count_same _ _ 16
+    (λ i h. rw (bit_at_not w16 n i (or_of_16 x 1 l (omega arith)) h, bit_at_or x 1 i) (clear_bit x i))
 
 -- beside 0 every tag that is allowed suits
 pub suits_untagged : (x tag : ℕ) → suits x 0 tag ≡ allowed x tag
