@@ -79,12 +79,6 @@ fn put_file_header(f: &mut [u8]) {
     memory::put_bytes(f, 54, b"\x38\x00\x02\x00");
 }
 
-fn rela_bytes(entries: u32) -> u64
-    ensures { result ≡ 24 * entries }
-{
-    24 * (entries as u64)
-}
-
 // An image of the sheet's three globals, all but the relocations and their entries in the dynamic table.
 fn put_image(f: &mut [u8], filesz: u64, memsz: u64) {
     put_file_header(f);
@@ -98,7 +92,7 @@ fn put_image(f: &mut [u8], filesz: u64, memsz: u64) {
 // The entries of so many relocations.
 fn put_table(f: &mut [u8], entries: u32) {
     put_dynamic(f, 0, DT_RELA, RELA as u64);
-    put_dynamic(f, 1, DT_RELASZ, rela_bytes(entries));
+    put_dynamic(f, 1, DT_RELASZ, 24 * (entries as u64));
     put_dynamic(f, 2, DT_RELAENT, 24);
 }
 

@@ -4,11 +4,10 @@
 // (8 bytes each).
 #![tactic(auto)]
 
-ghost use Rattle.std.specs.Prelude.{◌+◌, ◌≤◌, ◌<◌, length, IfOk};
+ghost use Rattle.std.specs.Prelude.{◌≤◌, ◌<◌, length, IfOk};
 
-use rules::{Cursor, Step};
+use rules::{Cursor, Global, Refusal};
 use std::io;
-use std::io::Read;
 
 // Bytes of input that are read.
 const CASES: usize = 65536;
@@ -18,51 +17,13 @@ const BEFORE: usize = 4;
 
 const AFTER: usize = 24;
 
-fn byte(s: &[u8], at: usize) -> u8
-    requires { at < length s.now }
-{
-    s[at]
-}
-
-fn le16(s: &[u8], at: usize) -> u16
-    requires { at + 2 ≤ length s.now }
-{
-    byte(s, at) as u16 + 256 * (byte(s, at + 1) as u16)
-}
-
-fn le32(s: &[u8], at: usize) -> u32
-    requires { at + 4 ≤ length s.now }
-{
-    le16(s, at) as u32 + 65536 * (le16(s, at + 2) as u32)
-}
-
-fn le64(s: &[u8], at: usize) -> u64
-    requires { at + 8 ≤ length s.now }
-{
-    le32(s, at) as u64 + 4294967296 * (le32(s, at + 4) as u64)
-}
-
-fn print_after_space(rt: &impl Print, n: u64) -> io::Result<()> {
-    print!(rt; " {n}")
-}
-
-fn print_step(rt: &impl Print, answer: Step) -> io::Result<()> {
-    match answer {
-        Step::Finished => println!(rt; "finished"),
-        Step::Global(g, c) => {
-            print!(rt; "global")?;
-            print_after_space(rt, g.start)?;
-            print_after_space(rt, g.granules)?;
-            print_after_space(rt, c.position)?;
-            print_after_space(rt, c.end)?;
-            println!(rt)
+fn print_step(rt: &impl Print, step: Result<Option<(Global, Cursor)>, Refusal>) -> io::Result<()> {
+    match step {
+        Ok(Some((g, c))) => {
+            println!(rt; "global {} {} {} {}", g.start, g.granules, c.position, c.end)
         }
-        Step::Refused(r) => {
-            print!(rt; "refused")?;
-            print_after_space(rt, r.number as u64)?;
-            print_after_space(rt, r.position)?;
-            println!(rt)
-        }
+        Ok(None) => println!(rt; "finished"),
+        Err(r) => println!(rt; "{r}"),
     }
 }
 
@@ -75,18 +36,17 @@ fn answer_case(rt: &impl Print, s: &[u8]) -> io::Result<usize>
     if s.len() < BEFORE {
         return Ok(s.len());
     }
-    let bytes = le32(s, 0) as usize;
+    let bytes = reads::le32(s, 0) as usize;
     let after = BEFORE + bytes;
     if s.len() < after + AFTER {
         return Ok(s.len());
     }
     let table = &s[BEFORE..after];
     let c = Cursor {
-        position: le64(s, after),
-        end: le64(s, after + 8),
+        position: reads::le64(s, after),
+        end: reads::le64(s, after + 8),
     };
-    let answer = c.step(table, le64(s, after + 16));
-    print_step(rt, answer)?;
+    print_step(rt, c.step(table, reads::le64(s, after + 16)))?;
     Ok(after + AFTER)
 }
 
@@ -98,23 +58,8 @@ fn answer_all(rt: &impl Print, s: &[u8]) -> io::Result<()> {
     Ok(())
 }
 
-// Reads until the bytes are full or the input ends, and says how many were read.
-fn read_full(input: &mut impl Read, bytes: &mut [u8]) -> io::Result<usize>
-    ensures { IfOk result (λ n. n ≤ length bytes.new) }
-{
-    let mut done = 0;
-    while done < bytes.len() {
-        let n = input.read(&mut bytes[done..])?;
-        if n == 0 {
-            break;
-        }
-        done += n;
-    }
-    Ok(done)
-}
-
 fn main(rt: HostRuntime) -> io::Result<()> {
     let mut cases = [0u8; CASES];
-    let n = read_full(&mut rt.stdin(), &mut cases)?;
+    let n = printing::read_full(&mut rt.stdin(), &mut cases)?;
     answer_all(&rt, &cases[..n])
 }

@@ -1,2 +1,1 @@
 pub mod GapLaws
-pub mod LendingLaws

@@ -9,7 +9,6 @@ ghost use Rattle.rules.specs.declared.Target.TheVariants.{Defined};
 ghost use Rattle.rela_words.specs.Words.{target_word, relocated, relocated_from, Placed};
 
 use places::START;
-use rela_words::TAG_UNIT;
 use rules::{Module, Target};
 
 // The word of a packed place: the bias and what the place holds.
@@ -18,13 +17,7 @@ fn write_packed(plane: &[u8], bias: u64, place: usize, mem: &mut [u8])
 {
     let loaded = reads::read64(mem, place);
     let t = Target::Defined(loaded);
-    let tag = words::source_tag(plane, bias, mem.len() as u64, t, 0, loaded);
-    let bare = words::bare_word(bias, t, 0);
-    memory::put64(
-        mem,
-        place,
-        std::num::wrapping_add_u64(bare, TAG_UNIT * (tag as u64)),
-    );
+    rela_words::put_target(plane, bias, t, 0, place, mem);
 }
 
 // The words of the packed places, after those of the entries.
@@ -32,16 +25,15 @@ fn relocate_packed(f: &[u8], m: Module, bias: u64, plane: &[u8], mem: &mut [u8])
     requires { Placed f.now m }
     ensures { mem.new ≡ relocated_from f.now m bias plane.now mem.old m.relocations.entries m.packed.places }
 {
-    let n = m.packed.places;
     let mut run = START;
-    for _ in 0..n {
-        let t = m.packed;
-        run = places::next_place(f, t, run);
+    for _ in 0..m.packed.places {
+        run = places::next_place(f, m.packed, run);
         write_packed(plane, bias, run.place as usize, mem);
     }
 }
 
 // The words of all items.
+#[tactic(auto, using(rela_words::proofs::Laws::relocated_more))]
 pub fn relocate(f: &[u8], m: Module, bias: u64, plane: &[u8], mem: &mut [u8])
     requires { Placed f.now m }
     ensures { mem.new ≡ relocated f.now m bias plane.now mem.old (items m) }

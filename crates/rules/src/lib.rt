@@ -5,6 +5,8 @@ ghost use Rattle.std.specs.Prelude.{◌≡◌};
 ghost use Rattle.rules.specs.Answers.{number_of, list_number_of};
 ghost use Rattle.rules.specs.Examine.{mode_of, switch_of};
 
+use std::fmt;
+
 // Global descriptors: the reading of one at a cursor. A method stands in the crate of its struct.
 pub mod encoding;
 
@@ -167,6 +169,18 @@ impl From<ListReason> for u8 {
 
     fn from(r: ListReason) -> u8 {
         r as u8
+    }
+}
+
+impl fmt::Display for Refusal {
+    fn fmt<W: fmt::Write>(&self, f: &mut fmt::Formatter<W>) -> fmt::Result {
+        write!(f, "refused {} {}", u8::from(self.reason), self.position)
+    }
+}
+
+impl fmt::Display for ListRefusal {
+    fn fmt<W: fmt::Write>(&self, f: &mut fmt::Formatter<W>) -> fmt::Result {
+        write!(f, "refused {} {}", u8::from(self.reason), self.position)
     }
 }
 

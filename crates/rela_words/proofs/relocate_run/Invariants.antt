@@ -4,8 +4,5 @@ use Rattle.std.proofs.Common.{◌≡◌, ◌-◌, ◌≤◌}
 use Rattle.rela_words.specs.Words.{relocated_from}
 use Rattle.rela_words.proofs.relocate_run.Given as goal
 
-abbrev pub invariant-near : goal.invariant-near
-invariant-near l = (l.from ≤ l.i) × (l.i ≤ l.m.relocations.entries) × (l.mem ≡ relocated_from l.f l.m l.bias l.plane l.initial.mem l.from (l.i - l.from))
-
-abbrev pub decreases-near : goal.decreases-near
-decreases-near l = l.n - l.i
+abbrev pub invariant-loop-i : goal.invariant-loop-i
+invariant-loop-i l = (l.from ≤ l.i) × (l.i ≤ l.m.relocations.entries) × (l.mem ≡ relocated_from l.f l.m l.bias l.plane l.initial.mem l.from (l.i - l.from))

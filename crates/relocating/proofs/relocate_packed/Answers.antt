@@ -1,9 +1,8 @@
 -- The loop keeps the memory of the places seen, and where reading them stands.
 -- Assumes nothing.
-use Rattle.std.proofs.Common.{◌≡◌, ◌+◌, sym, refl, ◌∙◌, add-one, arith}
-use Rattle.places.proofs.ItemLaws.{reached_start, reached_more, reached_here, reached_next}
+use Rattle.std.proofs.Common.{◌+◌, sym, refl, ◌∙◌, add-one, arith}
+use Rattle.places.proofs.ItemLaws.{reached_start, reached_here, reached_next}
 use Rattle.rela_words.specs.Words.{relocated_from}
-use Rattle.rela_words.proofs.Laws.{relocated-length}
 use Rattle.relocating.proofs.WriteLaws.{packed-written}
 use Rattle.relocating.proofs.relocate_packed.Goals as goal
 
@@ -12,12 +11,6 @@ unfolding relocated_from
 loop-init c =
     let a = c.args in
     (omega arith, reached_start a.f.now a.m, refl)
-
-pub next_place-run-requires : goal.next_place-run-requires
-next_place-run-requires c =
-    let a = c.args in
-    let l = c.loop in
-    (l.invariant.1.standing, reached_more a.f.now a.m l.run l.run l.counter l.invariant.1 c.requires.counted (omega arith))
 
 pub loop-preserved : goal.loop-preserved
 unfolding relocated_from
@@ -34,20 +27,3 @@ loop-preserved c =
           ∙ sym (rw add-one (rw (← l.invariant.2) (packed-written a.f.now a.m a.bias a.plane.now l.mem (e + l.counter)
           c.next_place-run.result.place (omega arith) place))),
     )
-
-pub overflow_step : goal.overflow_step
-overflow_step c =
-    omega (arith, c.requires.few)
-
-pub shape_of-mem : goal.shape_of-mem
-shape_of-mem c =
-    let l = c.loop in
-    let a = c.args in
-    rw l.invariant.2 (relocated-length a.f.now a.m a.bias a.plane.now a.mem.now a.m.relocations.entries l.counter)
-
-pub returns : goal.returns
-returns c =
-    let l = c.loop in
-    let a = c.args in
-    let e : l.counter ≡ a.m.packed.places = omega (arith, c.loop-test.false) in
-    rw (l.invariant.2, e)
