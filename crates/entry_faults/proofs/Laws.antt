@@ -15,7 +15,7 @@ use Rattle.rules.specs.declared.Reason.{Reason}
 use Rattle.rules.proofs.OutcomeLaws.{true_false}
 use Rattle.rules.proofs.FirstLaws.{first_step, first-hit, first_none}
 use Rattle.judging.specs.declared.Word.{Word}
-use Rattle.judging.specs.Judges.{item_fault, has_fault, Judges}
+use Rattle.judging.specs.Judges.{item_fault, has_fault, Judges, Relocates}
 use Rattle.judging.proofs.Laws.{place_low, number_some}
 use Rattle.clear.specs.Clear.{Clear}
 use Rattle.segments.specs.Spans.{Sound}
@@ -85,15 +85,20 @@ module _ (f : List ℕ) (m : Module) (ready : Ready f m) (bias k n : ℕ) where
         seeing_more l (clear_fault f m i c.kept c.allowed c.fits) v
         (tallied_kept f m bias i t w.tallied place false position v a c.kept e (sym c.within) q (omega arith))
 
-    -- one that was judged and has no fault: a word, or skipped
+    -- one that was judged: a word
+    pub seeing_word : i < n → (word : Word) → Relocates f m bias i word → (position : ℕ) → position ≡ position_at f m i
+        → (v : Tally) → Tallies t word.place word.outside position v → Seeing f m bias k n v (i + 1)
+    seeing_word l word d position q v a =
+        let low = place_low f m.headers (place_at f m i) ready.loads (faultless_item f m i d.fault d.kept).1 in
+        seeing_more l d.fault v
+        (tallied_kept f m bias i t w.tallied word.place word.outside position v a d.kept d.place d.outside q (omega arith))
+
+    -- or skipped
     pub seeing_judged : i < n → (word : Option Word) → Judges f m bias i (Ok word) → (position : ℕ) → position ≡ position_at f m i
         → (v : Tally) (last s : Span) → Sound f m.headers true last
         → IfSome word (λ w. Tallies t w.place w.outside position v × (s ≡ w.span)) → IfNone word ((v ≡ t) × (s ≡ last))
         → Seeing f m bias k n v (i + 1) × Sound f m.headers true s
-    seeing_judged l (Some word) d position q v last s sound a b =
-        let low = place_low f m.headers (place_at f m i) ready.loads (faultless_item f m i d.fault d.kept).1 in
-        let more = tallied_kept f m bias i t w.tallied word.place word.outside position v a.0 d.kept d.place d.outside q (omega arith) in
-        (seeing_more l d.fault v more, rw a.1 d.sound)
+    seeing_judged l (Some word) d position q v last s sound a b = (seeing_word l word d position q v a.0, rw a.1 d.sound)
     seeing_judged l None d position q v last s sound a b =
         (seeing_more l (skipped_fault f m i d) v (rw b.0 (tallied_skipped f m bias i t w.tallied d)), rw b.1 sound)
 

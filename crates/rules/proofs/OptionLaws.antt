@@ -5,7 +5,7 @@ use mathlib.Core.Path.{◌≡◌, refl}
 use native.Mathlib.Omega.{arith}
 use lib.Dec.{ltb}
 use borrow.Author.Tests.{lt-ltb, le-ltb, ltb-true, ltb-false}
-use Rattle.std.specs.Prelude.{Bool, true, false, Some, None, is_some}
+use Rattle.std.specs.Prelude.{Bool, true, false, Option, Some, None, is_some}
 use Rattle.std.specs.Bool.{then_some}
 
 pub is_some-then_some : {A : Type 0} (b : Bool) (x : A) → is_some (then_some b x) ≡ b
@@ -33,3 +33,12 @@ search_there x y n e = let t = then_some-there (ltb x n) x y e in let l = ltb-tr
 
 pub search_none : (x n : ℕ) → None ≡ then_some (ltb x n) x → n ≤ x
 search_none x n e = ltb-false x n (then_some-none (ltb x n) x e)
+
+-- by its variant
+pub none_of : {A : Type 0} (o : Option A) → false ≡ is_some o → o ≡ None
+none_of None e = refl
+none_of (Some x) e = absurd (cc)
+
+pub some_of : {A : Type 0} (o : Option A) → true ≡ is_some o → o ≡ None → ⊥
+some_of None e n = cc
+some_of (Some x) e n = cc
