@@ -7,7 +7,7 @@ use mathlib.Core.List.{List}
 use mathlib.Core.Logic.{⊎_elim}
 use native.Mathlib.Omega.{arith}
 use native.Mathlib.Nat.{eq-or-lt_of_le}
-use lib.ListN.{length, replicate, length-replicate}
+use lib.ListN.{length}
 use lib.Dec.{eqb}
 use borrow.Author.Tests.{eqb-true, eq-eqb, ne_eqb}
 use Rattle.rules.specs.Bytes.{le}
@@ -15,13 +15,11 @@ use Rattle.rules.specs.Relocations.{entry_at, place_at, live}
 use Rattle.rules.specs.declared.Module.{Module}
 use Rattle.rules.proofs.OutcomeLaws.{true_false}
 use Rattle.laws.proofs.Items.{entry-live, entry_place, packed-live}
-use Rattle.items.specs.Table.{Bounded}
 use Rattle.marks.specs.Map.{shares}
 use Rattle.marks.proofs.Laws.{near_shares}
 use Rattle.bits.specs.Bits.{has, with_word}
 use Rattle.bits.proofs.Laws.{has_same, has_kept}
-use Rattle.apart.specs.Apart.{unsure, Met, Spread, Tells, Within}
-use Rattle.apart.specs.declared.Told.{Told}
+use Rattle.apart.specs.Apart.{unsure, Met, Spread, Within}
 
 -- ---- one place
 
@@ -66,10 +64,6 @@ words_apart lo p q map a b x y h n s =
 -- ---- the items
 
 module _ (f : List ℕ) (m : Module) (lo : ℕ) where
-  pub spread_none : (map : List ℕ) → Spread f m lo 0 map
-  spread_none map =
-      record { whole = λ i l. absurd (omega arith); filled = λ i l. absurd (omega arith); apart = λ i j l h. absurd (omega arith) }
-
   -- an item more
   module _ (i : ℕ) (map : List ℕ) (s : Spread f m lo i map) (above : (j : ℕ) → j < i + 1 → live f m j ≡ true → lo ≤ place_at f m j) where
     -- which is skipped
@@ -113,15 +107,6 @@ module _ (f : List ℕ) (m : Module) (lo : ℕ) where
             rw q (put (omega arith) here w.0 w.1)
         go false here told q = rw q (skipped here)
 
--- ---- what is told
-
-module _ (f : List ℕ) (m : Module) (n : ℕ) where
-  pub tells_none : (v : Told) → v.item ≡ 0 → Tells f m n v
-  tells_none v e = record { few = omega arith; apart = λ i j l u. absurd (omega arith) }
-
-  pub tells_less : (k : ℕ) (v : Told) → k ≤ n → Tells f m k v → Tells f m n v
-  tells_less k v l t = let few = t.few in record { few = omega arith; apart = t.apart }
-
 -- ---- an entry, by its fields; a packed place
 
 module _ (f : List ℕ) (m : Module) (lo i : ℕ) where
@@ -142,21 +127,3 @@ module _ (f : List ℕ) (m : Module) (lo i : ℕ) (map : List ℕ) (r : Bool) (a
   pub met_packed : (place : ℕ) → m.relocations.entries ≤ i → place_at f m i ≡ place → Met true (place - lo) map r after
       → Met (live f m i) (place_at f m i - lo) map r after
   met_packed place l e h = rw (packed-live f m i l, e) h
-
--- ---- the reach of a map
-
-pub bounded_within : (f : List ℕ) (m : Module) (n low top bytes : ℕ) → Bounded f m n low top → top - low < 64 * bytes → Within f m low bytes n
-bounded_within f m n low top bytes b l = record {
-  above = b.above;
-  reached = λ i u e. omega (arith, b.above i u e, b.below i u e);
-}
-
-pub within_less : (f : List ℕ) (m : Module) (lo bytes n k : ℕ) → k ≤ n → Within f m lo bytes n → Within f m lo bytes k
-within_less f m lo bytes n k l w = record {
-  above = λ i u e. w.above i (omega arith) e;
-  reached = λ i u e. w.reached i (omega arith) e;
-}
-
--- a map of zeros has its bytes
-pub zeros_within : (f : List ℕ) (m : Module) (lo n bytes : ℕ) → Within f m lo bytes n → Within f m lo (length {A = ℕ} (replicate bytes 0)) n
-zeros_within f m lo n bytes w = rw (length-replicate {A = ℕ} bytes 0) w

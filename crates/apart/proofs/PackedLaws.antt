@@ -4,32 +4,22 @@ use Prim.Native.Nat.{ℕ, ◌+◌, ◌*◌, ◌-◌, ◌≤◌, ◌<◌}
 use mathlib.Core.Path.{◌≡◌}
 use mathlib.Core.Bool.{Bool, true, false}
 use mathlib.Core.List.{List}
-use mathlib.Core.Logic.{⊎_elim}
 use native.Mathlib.Omega.{arith}
 use lib.ListN.{length}
 use Rattle.rules.specs.Relocations.{place_at, live}
 use Rattle.rules.specs.declared.Module.{Module}
-use Rattle.laws.proofs.Checks.{le_or_lt}
 use Rattle.laws.proofs.Items.{packed-live}
-use Rattle.places.specs.Ahead.{ahead, Standing, Next, Reached, Comes}
+use Rattle.places.specs.Ahead.{Next, Reached, Comes}
 use Rattle.places.specs.declared.Run.{Run}
 use Rattle.places.proofs.Laws.{standing_at}
-use Rattle.places.proofs.ItemLaws.{reached_start, reached_more, come_next}
-use Rattle.apart.specs.Apart.{Met, Apart, Spread, Tells, Within, Walkable}
+use Rattle.places.proofs.ItemLaws.{reached_start, come_next}
+use Rattle.apart.specs.Apart.{Met, Spread, Within, Walkable}
 use Rattle.apart.proofs.Laws.{spread_next, met_packed}
 
--- among items that can be walked over there is a next packed place
-pub walkable_more : (f : List ℕ) (m : Module) (n : ℕ) (run : Run) (i : ℕ) → Walkable f m n → m.relocations.entries ≤ i → i < n
-    → Reached f m run (i - m.relocations.entries) → Standing f m.packed run × (0 < length (ahead f m.packed run))
-walkable_more f m n run i walkable behind l s =
-    let few = walkable.few in
-    (s.standing, reached_more f m run run (i - m.relocations.entries) s walkable.counted (omega arith))
-
 module _ (f : List ℕ) (m : Module) (lo n : ℕ) where
-  -- before item i, where the walk goes on: the items below it are told apart, the map has their words, and the run stands before it
+  -- before item i: the items below it are told apart, the map has their words, and the run stands before it
   pub record Packing (map : List ℕ) (run : Run) (i : ℕ) : Type 0 where
     pub behind : m.relocations.entries ≤ i
-    pub few : m.relocations.entries ≤ n → i ≤ n
     pub spread : i ≤ n → Spread f m lo i map
     pub reached : i ≤ n → Reached f m run (i - m.relocations.entries)
 
@@ -37,25 +27,9 @@ module _ (f : List ℕ) (m : Module) (lo n : ℕ) where
       → Packing map (standing_at 0 0 0 0) m.relocations.entries
   packing_start map s =
       let z : m.relocations.entries - m.relocations.entries ≡ 0 = omega arith in
-      record { behind = omega arith; few = λ l. l; spread = s; reached = λ _. rw z (reached_start f m) }
+      record { behind = omega arith; spread = s; reached = λ _. rw z (reached_start f m) }
 
   module _ (walkable : Walkable f m n) (map : List ℕ) (run : Run) (i : ℕ) (w : Packing map run i) where
-    pub packing_more : i < n → Standing f m.packed run × (0 < length (ahead f m.packed run))
-    packing_more l = walkable_more f m n run i walkable w.behind l (w.reached (omega arith))
-
-    -- it stops at a place, or not
-    pub packing_stop : (place : ℕ) → i < n → Tells f m n (record { item = i; place = place })
-    packing_stop place l = record { few = omega arith; apart = (w.spread (omega arith)).apart }
-
-    pub packing_end : n ≤ i → (n ≤ m.relocations.entries → Apart f m n) → Tells f m n (record { item = n; place = 0 })
-    packing_end l entries = record { few = omega arith; apart = ⊎_elim entries all (le_or_lt n m.relocations.entries) }
-      where
-        all : m.relocations.entries < n → Apart f m n
-        all u =
-            let few = w.few (omega arith) in
-            let q : i ≡ n = omega arith in
-            rw q at (w.spread few).apart
-
     module _ (l : i < n) (within : Within f m lo (length map) n) (v : Run) (next : Next f m.packed run v) where
       comes : Comes f m i v
       comes = come_next f m run v i w.behind (w.reached (omega arith)) next
@@ -76,7 +50,6 @@ module _ (f : List ℕ) (m : Module) (lo n : ℕ) where
           let low = walkable.low i l here in
           record {
             behind = omega arith;
-            few = λ _. omega arith;
             spread = λ _.
                 spread_next f m lo i map (w.spread (omega arith)) (λ j u b. within.above j (omega arith) b) r after
                 (within.reached i l) (met_packed f m lo i map r after v.place behind place met) e;

@@ -1,6 +1,6 @@
 -- Places told apart by the words of eight bytes that they fill, counted from the lowest place.
 -- Assumes nothing.
-use Rattle.std.specs.Prelude.{ℕ, ◌*◌, ◌-◌, ◌/◌, ◌%◌, ◌≤◌, ◌<◌, ◌≡◌, Bool, true, false, cond, not, ◌&&◌, ◌||◌, List, length, eqb}
+use Rattle.std.specs.Prelude.{ℕ, ◌*◌, ◌-◌, ◌/◌, ◌%◌, ◌≤◌, ◌<◌, ◌≡◌, Bool, true, false, cond, not, ◌&&◌, ◌||◌, List, length, Option, Some, None, eqb}
 use Rattle.rules.specs.Packed.{packed_before}
 use Rattle.rules.specs.Relocations.{place_at, live, items}
 use Rattle.rules.specs.declared.Module.{Module}
@@ -10,13 +10,7 @@ use Rattle.marks.specs.Map.{shares}
 use Rattle.bits.specs.Bits.{has, with_word}
 use Rattle.apart.specs.declared.Told.{Told}
 
--- bytes of the maps
-abbrev pub small_map : ℕ
-small_map = 1024
-
-abbrev pub middle_map : ℕ
-middle_map = 16384
-
+-- bytes of the largest map
 abbrev pub large_map : ℕ
 large_map = 262144
 
@@ -44,10 +38,10 @@ module _ (f : List ℕ) (m : Module) where
     pub filled : (i : ℕ) → i < n → live f m i ≡ true → has map ((place_at f m i - lo) / 8) ≡ true
     pub apart : Apart n
 
-  -- items are told apart: as many as there are before the one that is given
-  pub record Tells (n : ℕ) (v : Told) : Type 0 where
-    pub few : v.item ≤ n
-    pub apart : Apart v.item
+  -- the first n items are told apart, or one of them is given, and those before it are
+  abbrev pub Tells : ℕ → Option Told → Type 0
+  Tells n None = Apart n
+  Tells n (Some v) = (v.item < n) × Apart v.item
 
   -- a map of so many bytes, for words from lo on, reaches the first n items
   pub record Within (lo bytes n : ℕ) : Type 0 where

@@ -2,16 +2,16 @@
 // are a whole number of words apart and none fills a word that an earlier one does; behind that a search has to.
 #![tactic(auto)]
 
-ghost use Rattle.std.specs.Prelude.{◌≡◌, true, not, ◌+◌, ◌*◌, ◌-◌, ◌≤◌, ◌<◌, eqb, length};
+ghost use Rattle.std.specs.Prelude.{◌≡◌, true, None, not, ◌+◌, ◌*◌, ◌-◌, ◌≤◌, ◌<◌, eqb, length};
 ghost use Rattle.rules.specs.Bytes.{le};
 ghost use Rattle.items.specs.Table.{Inside, Bounded};
-ghost use Rattle.apart.specs.Apart.{small_map, middle_map, large_map, Met, Apart, Spread, Tells, Within, Walkable};
+ghost use Rattle.apart.specs.Apart.{large_map, Met, Apart, Spread, Tells, Within, Walkable};
 
 use items::ENTRY_BYTES;
 use places::START;
 use rules::Module;
 
-// The items before one are told apart. Where there is one, its place is given: it was not told apart from them.
+// An item that is not told apart from those before it, and the place where a repeat of it is looked for. Those before it are told apart.
 #[derive(Clone, Copy)]
 pub struct Told {
     pub item: u32,
@@ -31,19 +31,6 @@ const SMALL: u64 = 64 * (SMALL_MAP as u64);
 const MIDDLE: u64 = 64 * (MIDDLE_MAP as u64);
 
 const LARGE: u64 = 64 * (LARGE_MAP as u64);
-
-// A map reaches so many times what the next smaller one does.
-const STEP: u64 = 16;
-
-// The lesser.
-pub fn least(a: u32, b: u32) -> u32
-    ensures { (result ≤ a) × (result ≤ b) × (a ≤ b → result ≡ a) × (b ≤ a → result ≡ b) }
-{
-    if a < b {
-        return a;
-    }
-    b
-}
 
 // Puts the word of a place at a distance from the lowest into the map; whether the place is not told apart from those before.
 fn meet_place(map: &mut [u8], distance: u64) -> bool
@@ -67,117 +54,79 @@ fn meet_entry(map: &mut [u8], f: &[u8], at: usize, lo: u64) -> bool
     meet_place(map, reads::le64(f, at) - lo)
 }
 
-// How many of the first n entries are told apart; where all are, the map has their words.
-fn spread_entries(map: &mut [u8], f: &[u8], m: Module, n: u32, lo: u64) -> Told
+// The first of n entries that is not told apart; where all are, the map has their words.
+fn spread_entries(map: &mut [u8], f: &[u8], m: Module, n: u32, lo: u64) -> Option<Told>
     requires { Inside f.now m × (n ≤ m.relocations.entries) × Within f.now m lo (length map.old) n }
     ensures tells { Tells f.now m n result }
-    ensures spread { result.item ≡ n → Spread f.now m lo n map.new }
+    ensures spread { result ≡ None → Spread f.now m lo n map.new }
 {
-    let mut i: u32 = 0;
-    while i < n {
+    for i in 0..n {
         let at = m.relocations.at as usize + ENTRY_BYTES * (i as usize);
         if meet_entry(map, f, at, lo) {
-            return Told {
+            return Some(Told {
                 item: i,
                 place: reads::le64(f, at),
-            };
+            });
         }
-        i += 1;
     }
-    Told { item: n, place: 0 }
+    None
 }
 
-// How many of the first n items, where the entries among them are told apart and the map has their words.
-fn spread_packed(map: &mut [u8], f: &[u8], m: Module, n: u32, lo: u64) -> Told
-    requires { Walkable f.now m n × Within f.now m lo (length map.old) n × (n ≤ m.relocations.entries → Apart f.now m n) × (m.relocations.entries ≤ n → Spread f.now m lo m.relocations.entries map.old) }
+// The first of n items that is not told apart, where the entries among them are and the map has their words.
+fn spread_packed(map: &mut [u8], f: &[u8], m: Module, n: u32, lo: u64) -> Option<Told>
+    requires { Walkable f.now m n × Within f.now m lo (length map.old) n × (n ≤ m.relocations.entries → Apart f.now m n)
+        × (m.relocations.entries ≤ n → Spread f.now m lo m.relocations.entries map.old) }
     ensures { Tells f.now m n result }
 {
     let mut run = START;
-    let mut i = m.relocations.entries;
-    while i < n {
-        let t = m.packed;
-        if run.rest % 2 == 1 {
-            run = places::near_place(f, t, run);
-        } else {
-            run = places::next_place(f, t, run);
-        }
+    for i in m.relocations.entries..n {
+        run = places::next_place(f, m.packed, run);
         if meet_place(map, run.place - lo) {
-            return Told {
+            return Some(Told {
                 item: i,
                 place: run.place,
-            };
+            });
         }
-        i += 1;
     }
-    Told { item: n, place: 0 }
+    None
 }
 
-// How many of the first n items, with a map that reaches them.
-fn spread_items(map: &mut [u8], f: &[u8], m: Module, n: u32, lo: u64) -> Told
+// The first of n items that is not told apart, with a map that reaches them.
+fn spread_items(map: &mut [u8], f: &[u8], m: Module, n: u32, lo: u64) -> Option<Told>
     requires { Walkable f.now m n × Within f.now m lo (length map.old) n }
     ensures { Tells f.now m n result }
 {
-    let k = least(n, m.relocations.entries);
-    let told = spread_entries(map, f, m, k, lo);
-    if told.item < k {
-        return told;
+    let k = n.min(m.relocations.entries);
+    if let Some(told) = spread_entries(map, f, m, k, lo) {
+        return Some(told);
     }
     spread_packed(map, f, m, n, lo)
 }
 
-// The same with a map of its own, by its size.
-fn apart_small(f: &[u8], m: Module, n: u32, lo: u64) -> Told
-    requires { Walkable f.now m n × Within f.now m lo small_map n }
+// The same with a map of its own. It is not inlined, so that a map is in no frame but its own.
+#[inline(never)]
+fn tell_with<const MAP: usize>(f: &[u8], m: Module, n: u32, lo: u64) -> Option<Told>
+    requires { Walkable f.now m n × Within f.now m lo MAP n × (MAP ≤ large_map) }
     ensures { Tells f.now m n result }
 {
-    let mut map = [0u8; SMALL_MAP];
+    let mut map = [0u8; MAP];
     spread_items(&mut map, f, m, n, lo)
 }
 
-fn apart_middle(f: &[u8], m: Module, n: u32, lo: u64) -> Told
-    requires { Walkable f.now m n × Within f.now m lo middle_map n }
-    ensures { Tells f.now m n result }
-{
-    let mut map = [0u8; MIDDLE_MAP];
-    spread_items(&mut map, f, m, n, lo)
-}
-
-fn apart_large(f: &[u8], m: Module, n: u32, lo: u64) -> Told
-    requires { Walkable f.now m n × Within f.now m lo large_map n }
-    ensures { Tells f.now m n result }
-{
-    let mut map = [0u8; LARGE_MAP];
-    spread_items(&mut map, f, m, n, lo)
-}
-
-// The same with the smallest map that reaches them, where one of a reach does. It calls itself so that the larger maps are not in the frames
-// of its callers.
-fn apart_within(f: &[u8], m: Module, n: u32, low: u64, top: u64, reach: u64) -> Told
-    requires { Walkable f.now m n × Bounded f.now m n low top × (low ≤ top) × (top - low < reach) × (reach ≤ 64 * large_map) }
-    ensures { Tells f.now m n result }
-{
-    if reach <= SMALL {
-        return apart_small(f, m, n, low);
-    }
-    if top - low < reach / STEP {
-        return apart_within(f, m, n, low, top, reach / STEP);
-    }
-    if reach <= MIDDLE {
-        return apart_middle(f, m, n, low);
-    }
-    apart_large(f, m, n, low)
-}
-
-// How many of the first n items, whose places are from low to top; none that are too far apart for every map.
-pub fn tell_apart(f: &[u8], m: Module, n: u32, low: u64, top: u64) -> Told
+// The first of n items, whose places are from low to top, that is not told apart: with the smallest map that reaches them. Where none does,
+// it is item 0, at low.
+pub fn tell_apart(f: &[u8], m: Module, n: u32, low: u64, top: u64) -> Option<Told>
     requires { Walkable f.now m n × Bounded f.now m n low top × (low ≤ top) }
     ensures { Tells f.now m n result }
 {
-    if top - low < LARGE {
-        return apart_within(f, m, n, low, top, LARGE);
-    }
-    Told {
-        item: 0,
-        place: low,
+    match top - low {
+        0..SMALL => tell_with::<SMALL_MAP>(f, m, n, low),
+        SMALL..MIDDLE => tell_with::<MIDDLE_MAP>(f, m, n, low),
+        MIDDLE..LARGE => tell_with::<LARGE_MAP>(f, m, n, low),
+        _ if n == 0 => None,
+        _ => Some(Told {
+            item: 0,
+            place: low,
+        }),
     }
 }

@@ -13,6 +13,7 @@ fn has_bit(byte: u8, k: u8) -> bool
 }
 
 // A byte with bit k, which it lacks.
+#[tactic(auto, using(crate::proofs::Laws::byte_room, crate::proofs::Laws::one_shl))]
 fn with_bit(byte: u8, k: u8) -> u8
     requires k_bound { k < 8 }
     requires k_value { byte / 2 ^ k % 2 ≡ 0 }
@@ -22,6 +23,7 @@ fn with_bit(byte: u8, k: u8) -> u8
 }
 
 // Puts a word into the map unless the map has it; whether it does.
+#[tactic(auto, using(crate::proofs::Laws::zero_bit), unfolding(crate::specs::Bits::has, crate::specs::Bits::with_word))]
 pub fn meet_word(map: &mut [u8], word: u64) -> bool
     requires { word / 8 < length map.old }
     ensures had { result ≡ has map.old word }

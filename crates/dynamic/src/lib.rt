@@ -1,7 +1,8 @@
 // Check 5: PT_DYNAMIC.
 #![tactic(auto)]
 
-ghost use Rattle.std.specs.Prelude.{◌≡◌, ◌-◌, ◌≤◌};
+ghost use Rattle.std.specs.Prelude.{◌≡◌, ◌-◌, ◌≤◌, ltb};
+ghost use Rattle.std.specs.Bool.{then_some};
 ghost use Rattle.rules.specs.Dynamic.{is_dynamic_at, dynamic_from, is_null_at, null_entry, good_size, dynamic_at, dynamic_of};
 ghost use Rattle.rules.specs.Answers.{of_result};
 
@@ -19,18 +20,17 @@ fn is_dynamic_at(f: &[u8], h: Headers, i: u32) -> bool
     s.kind == PT_DYNAMIC
 }
 
-// The first PT_DYNAMIC from an index on, or the count.
-fn dynamic_from(f: &[u8], h: Headers, from: u32) -> u32
+// The first PT_DYNAMIC from an index on.
+fn dynamic_from(f: &[u8], h: Headers, from: u32) -> Option<u32>
     requires { from ≤ h.count }
-    ensures { result ≡ dynamic_from f.now h from (h.count - from) }
+    ensures { result ≡ then_some (ltb (dynamic_from f.now h from (h.count - from)) h.count) (dynamic_from f.now h from (h.count - from)) }
 {
-    let count = h.count;
-    for i in from..count {
+    for i in from..h.count {
         if is_dynamic_at(f, h, i) {
-            return i;
+            return Some(i);
         }
     }
-    count
+    None
 }
 
 fn is_null_at(f: &[u8], at: u32, i: u32) -> bool
@@ -39,16 +39,16 @@ fn is_null_at(f: &[u8], at: u32, i: u32) -> bool
     reads::read64(f, at as usize + 16 * (i as usize)) == 0
 }
 
-// The first DT_NULL of n entries, or n.
-fn null_entry(f: &[u8], at: u32, n: u32) -> u32
-    ensures { result ≡ null_entry f.now at n }
+// The first DT_NULL of n entries.
+fn null_entry(f: &[u8], at: u32, n: u32) -> Option<u32>
+    ensures { result ≡ then_some (ltb (null_entry f.now at n) n) (null_entry f.now at n) }
 {
     for i in 0..n {
         if is_null_at(f, at, i) {
-            return i;
+            return Some(i);
         }
     }
-    n
+    None
 }
 
 // A multiple of 16 from 16 to the limit.
@@ -75,10 +75,9 @@ fn dynamic_at(f: &[u8], i: u32, size: u64, backing: Option<u32>) -> Result<Dynam
         return Err(Reason::Dynamic.at(i as u64));
     }
     let n = (size / ENTRY_BYTES) as u32;
-    let entries = null_entry(f, at, n);
-    if n <= entries {
+    let Some(entries) = null_entry(f, at, n) else {
         return Err(Reason::Dynamic.at(i as u64));
-    }
+    };
     Ok(Dynamic { at, entries })
 }
 
@@ -86,12 +85,10 @@ fn dynamic_at(f: &[u8], i: u32, size: u64, backing: Option<u32>) -> Result<Dynam
 pub fn find_dynamic(f: &[u8], h: Headers) -> Result<Dynamic, Refusal>
     ensures { of_result result ≡ dynamic_of f.now h }
 {
-    let one = dynamic_from(f, h, 0);
-    if h.count <= one {
+    let Some(one) = dynamic_from(f, h, 0) else {
         return Err(Reason::Dynamic.at(h.count as u64));
-    }
-    let two = dynamic_from(f, h, one + 1);
-    if two < h.count {
+    };
+    if let Some(two) = dynamic_from(f, h, one + 1) {
         return Err(Reason::Dynamic.at(two as u64));
     }
     let s = segments::header_at(f, h, one);

@@ -1,5 +1,6 @@
 -- The items one after the other, each by itself.
 -- Assumes nothing.
+use Rattle.std.specs.Prelude.{Option, Some, None, Ok, IfSome, IfNone}
 use Prim.Native.Nat.{ℕ, ◌+◌, ◌≤◌, ◌<◌}
 use mathlib.Core.Path.{◌≡◌, refl, sym, ◌∙◌}
 use mathlib.Core.Bool.{Bool, true, false, cond, not}
@@ -8,13 +9,17 @@ use native.Mathlib.Omega.{arith}
 use lib.Dec.{eqb}
 use borrow.Author.Tests.{eq-eqb, ne_eqb, eqb-true, not-false}
 use Rattle.rules.specs.Relocations.{place_at, live, position_at, target_at, barred, place_fits}
+use Rattle.rules.specs.Answers.{number_of}
 use Rattle.rules.specs.declared.Module.{Module}
+use Rattle.rules.specs.declared.Reason.{Reason}
 use Rattle.rules.proofs.OutcomeLaws.{true_false}
 use Rattle.rules.proofs.FirstLaws.{first_step, first-hit, first_none}
-use Rattle.judging.specs.declared.Judged.{Judged}
-use Rattle.judging.specs.Judges.{item_fault, has_fault, Judges}
-use Rattle.judging.proofs.Laws.{place_low}
+use Rattle.judging.specs.declared.Word.{Word}
+use Rattle.judging.specs.Judges.{item_fault, has_fault, Judges, Relocates}
+use Rattle.judging.proofs.Laws.{place_low, number_some}
 use Rattle.clear.specs.Clear.{Clear}
+use Rattle.segments.specs.Spans.{Sound}
+use Rattle.segments.specs.declared.Span.{Span}
 use Rattle.tallies.specs.declared.Tally.{Tally}
 use Rattle.tallies.specs.Tallies.{Tallies, Tallied}
 use Rattle.tallies.proofs.Laws.{tallied_kept, tallied_skipped}
@@ -43,6 +48,10 @@ module _ (f : List ℕ) (m : Module) (i : ℕ) where
   pub clear_fault : live f m i ≡ true → barred (target_at f m i) ≡ false → place_fits f m.headers (place_at f m i) ≡ true → item_fault f m i ≡ 0
   unfolding item_fault
   clear_fault l b p = rw (l, b, p)
+
+  skipped_fault : live f m i ≡ false → item_fault f m i ≡ 0
+  unfolding item_fault
+  skipped_fault e = rw e
 
   pub faultless_item : item_fault f m i ≡ 0 → live f m i ≡ true
       → (barred (target_at f m i) ≡ false) × (place_fits f m.headers (place_at f m i) ≡ true)
@@ -76,44 +85,40 @@ module _ (f : List ℕ) (m : Module) (ready : Ready f m) (bias k n : ℕ) where
         seeing_more l (clear_fault f m i c.kept c.allowed c.fits) v
         (tallied_kept f m bias i t w.tallied place false position v a c.kept e (sym c.within) q (omega arith))
 
-    -- one that was judged
-    module _ (l : i < n) (j : Judged) (judged : Judges f m bias i j) where
-      pub seeing_judged : j.number ≡ 0 → (position : ℕ) (v : Tally) → position ≡ position_at f m i
-          → (j.kept ≡ true → Tallies t j.place j.outside position v) → (j.kept ≡ false → v ≡ t) → Seeing f m bias k n v (i + 1)
-      seeing_judged z position v q a b = go j.kept refl
-        where
-          e : item_fault f m i ≡ 0
-          e = sym judged.fault ∙ z
+    -- one that was judged: a word
+    pub seeing_word : i < n → (word : Word) → Relocates f m bias i word → (position : ℕ) → position ≡ position_at f m i
+        → (v : Tally) → Tallies t word.place word.outside position v → Seeing f m bias k n v (i + 1)
+    seeing_word l word d position q v a =
+        let low = place_low f m.headers (place_at f m i) ready.loads (faultless_item f m i d.fault d.kept).1 in
+        seeing_more l d.fault v
+        (tallied_kept f m bias i t w.tallied word.place word.outside position v a d.kept d.place d.outside q (omega arith))
 
-          go : (x : Bool) → j.kept ≡ x → Seeing f m bias k n v (i + 1)
-          go true s =
-              let kept : live f m i ≡ true = sym (judged.kept z) ∙ s in
-              let low = place_low f m.headers (place_at f m i) ready.loads (faultless_item f m i e kept).1 in
-              let p = judged.place z s in
-              seeing_more l e v
-              (tallied_kept f m bias i t w.tallied j.place j.outside position v (a s) kept p (judged.outside z) q (omega arith))
-          go false s =
-              let kept : live f m i ≡ false = sym (judged.kept z) ∙ s in
-              seeing_more l e v (rw (b s) (tallied_skipped f m bias i t w.tallied kept))
+    -- or skipped
+    pub seeing_judged : i < n → (word : Option Word) → Judges f m bias i (Ok word) → (position : ℕ) → position ≡ position_at f m i
+        → (v : Tally) (last s : Span) → Sound f m.headers true last
+        → IfSome word (λ w. Tallies t w.place w.outside position v × (s ≡ w.span)) → IfNone word ((v ≡ t) × (s ≡ last))
+        → Seeing f m bias k n v (i + 1) × Sound f m.headers true s
+    seeing_judged l (Some word) d position q v last s sound a b = (seeing_word l word d position q v a.0, rw a.1 d.sound)
+    seeing_judged l None d position q v last s sound a b =
+        (seeing_more l (skipped_fault f m i d) v (rw b.0 (tallied_skipped f m bias i t w.tallied d)), rw b.1 sound)
 
-      pub seen_fault : (j.number ≡ 0 → ⊥) → (position : ℕ) → position ≡ position_at f m i
-          → SeesIn f m bias k n (record { item = i; number = j.number; position = position; tally = t })
-      unfolding has_fault
-      seen_fault z position q = record {
-        lowest = sym (w.lowest ∙ first-hit (has_fault f m) i n l (fault_some (item_fault f m i) (λ x. z (judged.fault ∙ x))));
-        fault = λ _. judged.fault;
-        none = λ x. absurd (omega arith);
-        reported = λ _. q;
-        tallied = w.tallied;
-      }
+    -- a fault
+    pub seen_fault : i < n → (r : Reason) → number_of r ≡ item_fault f m i → (position : ℕ) → position ≡ position_at f m i
+        → SeesIn f m bias k n (record { item = i; fault = Some (record { reason = r; position = position }); tally = t })
+    unfolding has_fault
+    seen_fault l r e position q = record {
+      lowest = sym (w.lowest ∙ first-hit (has_fault f m) i n l (fault_some (item_fault f m i) (λ x. number_some r (e ∙ x))));
+      fault = λ _. (e, q);
+      none = λ x. absurd (omega arith);
+      tallied = w.tallied;
+    }
 
-    pub seen_end : n ≤ i → SeesIn f m bias k n (record { item = i; number = 0; position = 0; tally = t })
+    pub seen_end : n ≤ i → SeesIn f m bias k n (record { item = i; fault = None; tally = t })
     seen_end l =
         let u = w.below in
         record {
           lowest = sym (w.lowest ∙ first_none (has_fault f m) i n u l ∙ omega arith);
           fault = λ x. absurd (omega arith);
           none = λ _. refl;
-          reported = λ x. absurd (omega arith);
           tallied = w.tallied;
         }

@@ -1,13 +1,15 @@
 -- The items one after the other, each by itself: the lowest with a fault of its own, and what is found of those before it.
 -- Assumes nothing.
-use Rattle.std.specs.Prelude.{ℕ, ◌-◌, ◌≤◌, ◌<◌, ◌≡◌, List, length}
+use Rattle.std.specs.Prelude.{ℕ, ◌-◌, ◌≤◌, ◌<◌, ◌≡◌, List, length, Option, Some, None}
 use Rattle.rules.specs.Outcome.{good}
 use Rattle.rules.specs.Limits.{entry_limit}
+use Rattle.rules.specs.Answers.{number_of}
 use Rattle.rules.specs.First.{first}
 use Rattle.rules.specs.Segments.{loads_check}
 use Rattle.rules.specs.Packed.{packed_before}
 use Rattle.rules.specs.Relocations.{items, position_at}
 use Rattle.rules.specs.declared.Module.{Module}
+use Rattle.rules.specs.declared.Refusal.{Refusal}
 use Rattle.items.specs.Table.{Inside}
 use Rattle.judging.specs.Judges.{item_fault, has_fault}
 use Rattle.tallies.specs.Tallies.{Tallied}
@@ -28,12 +30,16 @@ pub record Seeing (f : List ℕ) (m : Module) (bias k n : ℕ) (t : Tally) (i : 
   pub lowest : first (has_fault f m) k (n - k) ≡ first (has_fault f m) i (n - i)
   pub tallied : Tallied f m bias i t
 
+-- a refusal has a number and a position
+abbrev pub Says : Option Refusal → ℕ → ℕ → Type 0
+Says (Some r) number position = (number_of r.reason ≡ number) × (r.position ≡ position)
+Says None number position = ⊥
+
 -- what is seen of the items from k to n: the lowest with a fault, its fault and its position; the tally of all before it
 pub record SeesIn (f : List ℕ) (m : Module) (bias k n : ℕ) (s : Seen) : Type 0 where
   pub lowest : s.item ≡ first (has_fault f m) k (n - k)
-  pub fault : s.item < n → s.number ≡ item_fault f m s.item
-  pub none : s.item ≡ n → s.number ≡ 0
-  pub reported : s.item < n → s.position ≡ position_at f m s.item
+  pub fault : s.item < n → Says s.fault (item_fault f m s.item) (position_at f m s.item)
+  pub none : s.item ≡ n → s.fault ≡ None
   pub tallied : Tallied f m bias s.item s.tally
 
 -- of all items from k on

@@ -2,15 +2,17 @@
 // before it.
 #![tactic(auto)]
 
-ghost use Rattle.std.specs.Prelude.{◌≡◌, true, ◌≤◌, ◌<◌};
+ghost use Rattle.std.specs.Prelude.{◌≡◌, true, ◌≤◌, ◌<◌, IfSome, IfNone};
 ghost use Rattle.rules.specs.Relocations.{place_at};
 ghost use Rattle.items.specs.Table.{Inside};
 ghost use Rattle.segments.specs.Spans.{Sound};
 ghost use Rattle.clear.specs.Clear.{Nears};
+ghost use Rattle.tallies.specs.Tallies.{Tallies};
 ghost use Rattle.entry_faults.specs.Seen.{Ready, Seeing, Sees};
 
 use clear::{FAR, Near};
 use items::ENTRY_BYTES;
+use judging::Word;
 use rules::{Module, Refusal};
 use segments::{NO_SPAN, Span};
 use tallies::{NOTHING, Tally};
@@ -72,6 +74,18 @@ fn pass_entries(
     Passed { item: n, tally: t }
 }
 
+// What is seen with one entry more, and the PT_LOAD found last: a skipped entry has no word.
+fn seen_after(t: Tally, last: Span, word: Option<Word>, position: u64) -> (Tally, Span)
+    requires { t.words < 4294967295 }
+    ensures kept { IfSome word (λ w. Tallies t w.place w.outside position result.0 × (result.1 ≡ w.span)) }
+    ensures skipped { IfNone word ((result.0 ≡ t) × (result.1 ≡ last)) }
+{
+    match word {
+        Some(w) => (tallies::tally_word(t, w, position), w.span),
+        None => (t, last),
+    }
+}
+
 // The entries of the RELA table: those in which nothing is wrong are passed over, each other one is judged.
 pub fn see_entries(f: &[u8], m: Module, bias: u64) -> Seen
     requires { Ready f.now m }
@@ -88,12 +102,7 @@ pub fn see_entries(f: &[u8], m: Module, bias: u64) -> Seen
         i = p.item;
         if i < n {
             match judging::judge_entry(f, m, bias, span, i) {
-                Ok(Some(word)) => {
-                    t = tallies::tally_word(t, word, i as u64);
-                    span = word.span;
-                }
-                // Skipped.
-                Ok(None) => {}
+                Ok(word) => (t, span) = seen_after(t, span, word, i as u64),
                 Err(reason) => {
                     return Seen {
                         item: i,

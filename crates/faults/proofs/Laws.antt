@@ -1,31 +1,37 @@
 -- The packed places as items, and the entries before them.
 -- Assumes nothing.
+use Rattle.std.specs.Prelude.{Option, Some, None}
+use Rattle.std.specs.Option.{unwrap_or}
 use Prim.Native.Nat.{ℕ, ◌+◌, ◌-◌, ◌≤◌, ◌<◌}
-use mathlib.Core.Path.{◌≡◌, refl, sym, ◌∙◌}
+use mathlib.Core.Path.{◌≡◌, refl, sym, subst, ◌∙◌}
 use mathlib.Core.Bool.{true, false}
 use mathlib.Core.List.{List}
 use mathlib.Core.Logic.{⊎_elim}
 use native.Mathlib.Omega.{arith}
 use native.Mathlib.Nat.{sub-zero, eq-or-lt_of_le}
 use Rattle.rules.specs.First.{first}
-use Rattle.rules.specs.Relocations.{place_at, place_fits}
+use Rattle.rules.specs.Relocations.{place_at, place_fits, position_at}
 use Rattle.rules.specs.Addresses.{bad_address}
 use Rattle.rules.specs.Image.{loaded_at}
+use Rattle.rules.specs.declared.Headers.{Headers}
 use Rattle.rules.specs.declared.Module.{Module}
-use Rattle.rules.proofs.OutcomeLaws.{true_false}
+use Rattle.rules.specs.declared.Refusal.{Refusal}
 use Rattle.rules.proofs.FirstLaws.{first-le, first_true, first_below, first_is}
 use Rattle.laws.proofs.Checks.{le_or_lt}
 use Rattle.laws.proofs.Items.{packed-live}
-use Rattle.judging.specs.declared.Judged.{Judged}
-use Rattle.judging.specs.Judges.{item_fault, has_fault, Judges}
+use Rattle.judging.specs.declared.Word.{Word}
+use Rattle.judging.specs.Judges.{item_fault, has_fault, Relocates}
 use Rattle.judging.proofs.Laws.{place_low, packed-allowed, packed_outside}
+use Rattle.parts.specs.Parts.{PartFound, Parted}
+use Rattle.parts.specs.declared.Part.{Part}
+use Rattle.parts.proofs.Laws.{parted_none}
 use Rattle.places.specs.Ahead.{Reached, Comes}
 use Rattle.places.specs.declared.Run.{Run}
 use Rattle.clear.specs.Clear.{Clear, ClearPlace}
 use Rattle.tallies.specs.Tallies.{Tallied}
 use Rattle.entry_faults.specs.declared.Seen.{Seen}
-use Rattle.entry_faults.specs.Seen.{Ready, SeesIn}
-use Rattle.entry_faults.proofs.Laws.{fault_none, faultless_item}
+use Rattle.entry_faults.specs.Seen.{Ready, SeesIn, Says}
+use Rattle.entry_faults.proofs.Laws.{faultless_item}
 
 -- ---- packed places
 
@@ -50,8 +56,14 @@ module _ (f : List ℕ) (m : Module) (ready : Ready f m) (i : ℕ) (l : m.reloca
       omega arith)
 
   -- one that was judged and has no fault fits
-  pub judged_fits : (bias : ℕ) (j : Judged) → Judges f m bias i j → j.number ≡ 0 → place_fits f m.headers (place_at f m i) ≡ true
-  judged_fits bias j judged z = (faultless_item f m i (sym judged.fault ∙ z) (packed-live f m i l)).1
+  pub judged_fits : (bias : ℕ) (word : Word) → Relocates f m bias i word → place_fits f m.headers (place_at f m i) ≡ true
+  judged_fits bias word d = (faultless_item f m i d.fault d.kept).1
+
+-- a file part that was found, or no bytes
+pub parted_or : (f : List ℕ) (h : Headers) (a n : ℕ) (o : Option Part) → PartFound f h true a n o
+    → Parted f h true (unwrap_or o (record { start = 0; size = 0; at = 0 }))
+parted_or f h a n (Some s) d = d.0
+parted_or f h a n None d = parted_none f h true
 
 -- ---- the entries, then the packed places
 
@@ -63,7 +75,7 @@ module _ (f : List ℕ) (m : Module) (bias k n : ℕ) (l : k ≤ n) (s : Seen) (
   at = d.lowest ∙ from_zero k
 
   -- a fault among the first k items is the lowest of more
-  pub sees_early : (s.number ≡ 0 → ⊥) → SeesIn f m bias 0 n s
+  pub sees_early : (s.fault ≡ None → ⊥) → SeesIn f m bias 0 n s
   sees_early z =
       let u = first-le (has_fault f m) k 0 in
       let e = at in
@@ -74,21 +86,18 @@ module _ (f : List ℕ) (m : Module) (bias k n : ℕ) (l : k ≤ n) (s : Seen) (
             (λ i q. first_below (has_fault f m) k 0 i (omega arith) (omega arith)) ∙ sym (from_zero n);
         fault = λ _. d.fault v;
         none = λ q. absurd (omega arith);
-        reported = λ _. d.reported v;
         tallied = d.tallied;
       }
 
   -- without one all of them are tallied, and the walk goes on behind them
-  module _ (z : s.number ≡ 0) where
+  module _ (z : s.fault ≡ None) where
     pub sees_none : s.item ≡ k
-    unfolding has_fault
     sees_none =
         let u = first-le (has_fault f m) k 0 in
         let e = at in
         ⊎_elim (λ (q : s.item ≡ k). q)
         (λ (q : s.item < k).
-        let some : has_fault f m s.item ≡ true = rw e (first_true (has_fault f m) k 0 (omega arith)) in
-        true_false (sym some ∙ fault_none (item_fault f m s.item) (sym (d.fault q) ∙ z)))
+        absurd (subst (λ (x : Option Refusal). Says x (item_fault f m s.item) (position_at f m s.item)) z (d.fault q)))
         (eq-or-lt_of_le (omega arith))
 
     pub sees_tallied : Tallied f m bias k s.tally
@@ -104,7 +113,6 @@ module _ (f : List ℕ) (m : Module) (bias k n : ℕ) (l : k ≤ n) (s : Seen) (
               (λ i q. low i q) ∙ sym (from_zero n);
           fault = b.fault;
           none = b.none;
-          reported = b.reported;
           tallied = b.tallied;
         }
       where

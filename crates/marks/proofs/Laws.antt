@@ -4,13 +4,12 @@ use Prim.Native.Nat.{ℕ, ◌+◌, ◌*◌, ◌/◌, ◌%◌, ◌≤◌, ◌<◌
 use mathlib.Core.Path.{◌≡◌, refl, sym, ◌∙◌}
 use mathlib.Core.Bool.{Bool, true, false, cond, ◌&&◌, ◌||◌, or-true}
 use mathlib.Core.List.{List}
-use mathlib.Core.Logic.{◌⊎◌, inl, inr}
 use native.Mathlib.Numerals.{add-one}
 use native.Mathlib.Omega.{arith}
 use lib.ListN.{length, get_or, replicate, get_or-replicate, length-replicate, length-set, get_or-eq_default}
 use lib.Seq.{get_or-set_same, get_or-set_other}
 use lib.Dec.{ltb, leb, eqb}
-use borrow.Author.Tests.{ltb-true, ltb-false, lt-ltb, le-ltb, lt-leb, eqb-true, eqb-false}
+use borrow.Author.Tests.{ltb-true, ltb-false, lt-ltb, le-ltb, eqb-true, eqb-false}
 use Rattle.rules.proofs.OutcomeLaws.{never, and_left, and_right}
 use Rattle.marks.specs.Map.{shares, code_at, looks, hit, weight_of, marked, Within}
 
@@ -246,34 +245,3 @@ code_fits map p w e new l = rw e (go (eqb ((p / 8 + 1) % 2) 0) (get_or map ((p /
         → ((p % 8 + 1) * cond b 1 16 < 256) × (v + (p % 8 + 1) * cond b 1 16 < 256)
     go true v l h = (omega arith, omega arith)
     go false v l h = (omega arith, omega arith)
-
--- a byte's half by its weight
-pub code_weighed : (map : List ℕ) (slot w : ℕ) → w ≡ weight_of slot → get_or map (slot / 2) 0 < 256
-    → (0 < w) × (get_or map (slot / 2) 0 / w % 16 ≡ code_at map slot)
-unfolding code_at weight_of
-code_weighed map slot w e l = rw e (go (eqb (slot % 2) 0) (get_or map (slot / 2) 0) l)
-  where
-    go : (b : Bool) (v : ℕ) → v < 256 → (0 < cond b 1 16) × (v / cond b 1 16 % 16 ≡ cond b (v % 16) (v / 16))
-    go true v l = (omega arith, omega arith)
-    go false v l = (omega arith, omega arith)
-
--- the two looks, from the codes
-module _ (a b c o : ℕ) where
-  pub looks_none : a ≤ o + 1 → b ≡ 0 → looks a b c o ≡ (ltb 0 c && leb c o)
-  unfolding looks
-  looks_none h e = rw (le-ltb (o + 1) a h, le-ltb 0 b (omega arith))
-
-  pub looks_some : (0 < b) ⊎ (o + 1 < a) → looks a b c o ≡ true
-  unfolding looks
-  looks_some (inl h) = rw (lt-ltb 0 b h, or-true)
-  looks_some (inr h) = rw (lt-ltb (o + 1) a h)
-
--- a place that starts its word is not met from the next
-pub looks_start : (a b c : ℕ) → b ≡ 0 → looks a b c 0 ≡ ltb 1 a
-unfolding looks
-looks_start a b c e = rw (le-ltb 0 b (omega arith)) (go (ltb 1 a) (ltb 0 c) refl)
-  where
-    go : (x t : Bool) → ltb 0 c ≡ t → (x || (t && leb c 0)) ≡ x
-    go true t l = refl
-    go false true l = lt-leb c 0 (ltb-true 0 c l)
-    go false false l = refl

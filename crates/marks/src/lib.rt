@@ -5,16 +5,15 @@ ghost use Rattle.std.specs.Prelude.{◌≡◌, false, ◌+◌, ◌/◌, ◌%◌,
 ghost use Rattle.marks.specs.Map.{code_at, looks, hit, weight_of, marked, Within};
 
 // What a code of a slot weighs in its byte.
+#[tactic(auto, unfolding(crate::specs::Map::weight_of))]
 fn weight(slot: usize) -> u8
     ensures { result ≡ weight_of slot }
 {
-    if slot % 2 == 0 {
-        return 1;
-    }
-    16
+    if slot % 2 == 0 { 1 } else { 16 }
 }
 
 // The code of a slot. A byte is read, since a byte was written: two at once would wait for a neighbour's mark.
+#[tactic(auto, unfolding(crate::specs::Map::code_at, crate::specs::Map::weight_of))]
 fn code_at(map: &[u8], slot: usize) -> u8
     requires { slot / 2 < length map.now }
     ensures { result ≡ code_at map.now slot }
@@ -23,20 +22,16 @@ fn code_at(map: &[u8], slot: usize) -> u8
 }
 
 // What the codes of the word before and of the next say of a place at an offset of its word, where none starts in its own.
+#[tactic(auto, unfolding(crate::specs::Map::looks))]
 fn looks_hit(a: u8, c: u8, o: u8) -> bool
     requires { o < 8 }
     ensures { result ≡ looks a 0 c o }
 {
-    if o + 1 < a {
-        return true;
-    }
-    if 0 < c {
-        return c <= o;
-    }
-    false
+    o + 1 < a || (0 < c && c <= o)
 }
 
 // One of the places that the map has shares a byte with p. Where p starts its word, no start in the next matters.
+#[tactic(auto, unfolding(crate::specs::Map::hit, crate::specs::Map::looks))]
 fn is_hit(map: &[u8], p: u64) -> bool
     requires { Within map.now p }
     ensures { result ≡ hit map.now p }
@@ -53,6 +48,7 @@ fn is_hit(map: &[u8], p: u64) -> bool
 }
 
 // Puts into the map a place that it does not hit.
+#[tactic(auto, using(crate::proofs::Laws::code_fits), unfolding(crate::specs::Map::marked))]
 fn mark(map: &mut [u8], p: u64)
     requires { Within map.old p × (hit map.old p ≡ false) }
     ensures { map.new ≡ marked map.old p }

@@ -4,27 +4,30 @@ use Prim.Native.Nat.{ℕ, ◌+◌, ◌-◌, ◌≤◌, ◌<◌}
 use mathlib.Core.Path.{◌≡◌, refl, sym, ◌∙◌}
 use mathlib.Core.Bool.{Bool, true, false}
 use mathlib.Core.List.{List}
+use Rattle.std.specs.Prelude.{Option, Some, None}
+use Rattle.std.specs.Option.{option_or}
 use mathlib.Core.Logic.{⊎_elim}
 use native.Mathlib.Omega.{arith}
-use native.Mathlib.Nat.{eq-or-lt_of_le}
-use lib.ListN.{length}
-use Rattle.rules.specs.Limits.{memory_limit}
-use Rattle.rules.specs.Packed.{packed_before}
-use Rattle.rules.specs.Relocations.{place_at, live, items}
+use Rattle.rules.specs.Relocations.{place_at, live}
 use Rattle.rules.specs.declared.Module.{Module}
 use Rattle.rules.proofs.FirstLaws.{at_some}
 use Rattle.rules.proofs.OutcomeLaws.{true_false, and_left, and_right}
 use Rattle.laws.proofs.Checks.{some_at, le_or_lt}
-use Rattle.items.specs.Table.{Inside, Bounded, Rising}
+use Rattle.items.specs.Table.{Rising}
 use Rattle.marks.specs.Map.{shares}
 use Rattle.marks.proofs.Laws.{near_shares}
-use Rattle.apart.specs.Apart.{Apart, Walkable}
-use Rattle.windows.specs.Window.{kept, meets_in, repeats_in}
-use Rattle.windows.proofs.LeastLaws.{least_first}
+use Rattle.apart.specs.Apart.{Apart}
+use Rattle.windows.specs.Window.{NoneBelow, kept, meets_in, repeats_in}
+use Rattle.windows.proofs.LeastLaws.{least_first, none_first}
 use Rattle.windows.proofs.Laws.{window_in}
 use Rattle.repeats.specs.Repeats.{meets, repeats, Lowers}
-use Rattle.repeats.specs.Search.{Finds, Above, Searched}
+use Rattle.repeats.specs.Search.{Finds, Behind, Searched}
 use Rattle.repeats.specs.declared.Lowest.{Lowest}
+
+-- the items before the repeat that was found, all of them where none was
+abbrev pub before : ℕ → Option Lowest → ℕ
+before n None = n
+before n (Some v) = v.item
 
 module _ (f : List ℕ) (m : Module) where
   -- an item repeats where it does in a window
@@ -84,88 +87,103 @@ module _ (f : List ℕ) (m : Module) where
         near = and_right (live f m s.0) _ h;
       }
 
-  -- fewer items; all of a module, by what is known of it
-  pub walkable_less : (n k : ℕ) → k ≤ n → Walkable f m n → Walkable f m k
-  walkable_less n k l w =
-      let few = w.few in
-      record { inside = w.inside; few = omega arith; counted = w.counted; low = λ i u e. w.low i (omega arith) e }
-
-  pub bounded_walkable : (n low top : ℕ) → Inside f m → n ≤ items m
-      → m.packed.places ≡ length (packed_before f m.packed.at m.packed.words) → Bounded f m n low top → top ≤ memory_limit → Walkable f m n
-  bounded_walkable n low top inside few counted b l =
-      record { inside = inside; few = few; counted = counted; low = λ i u e. omega (arith, b.below i u e) }
-
-  -- before the first window
-  pub searched_none : (lo : ℕ) (v : Lowest) → Above f m v.item lo → Searched f m v.item lo v
-  searched_none lo v above = record {
-    few = omega arith;
-    repeated = λ l. absurd (omega arith);
-    reported = λ l. absurd (omega arith);
-    none = λ i j l u a b _. (above i u a, above j (omega arith) b);
-  }
-
-  -- places that share no byte; so do those that rise
-  pub searched_apart : (end : ℕ) (v : Lowest) → Apart f m v.item → Searched f m v.item end v
-  searched_apart end v apart = record {
-    few = omega arith;
-    repeated = λ l. absurd (omega arith);
-    reported = λ l. absurd (omega arith);
-    none = λ i j l u a b near. absurd (apart i j l u a b near);
-  }
-
-  pub rising_apart : (n : ℕ) → Rising f m n → Apart f m n
+  rising_apart : (n : ℕ) → Rising f m n → Apart f m n
   rising_apart n rising i j l u a b near = omega (arith, (near_shares (place_at f m j) (place_at f m i) near).1, rising i j l u a b)
 
-  module _ (n : ℕ) where
-    -- a window more, which goes on by 8 bytes past the start of the next
-    pub searched_next : (lo size next : ℕ) (found v : Lowest) → next + 8 ≤ lo + size → Searched f m n lo found → Finds f m lo size found v
-        → Searched f m n next v
-    searched_next lo size next found v room s w =
-        let least = w.lowest in
-        let fewer = least.few in
-        let few = s.few in
-        record {
-          few = omega arith;
-          repeated = λ l. ⊎_elim
-              (λ (q : v.item ≡ found.item). rw q (s.repeated (omega arith)))
-              (λ (q : v.item < found.item). repeats_window lo size v.item (least.holds q))
-              (eq-or-lt_of_le (omega arith));
-          reported = λ l. ⊎_elim
-              (λ (q : v.item ≡ found.item). rw q (w.same q ∙ s.reported (omega arith)))
-              (λ (q : v.item < found.item). w.reported q)
-              (eq-or-lt_of_le (omega arith));
-          none = λ i j l u a b near. window_none lo size next i j room l a b (s.none i j l (omega arith) a b near) near (least.none i u);
-        }
+  -- a window more, which goes on by 8 bytes past the start of the next
+  searched_window : (n lo size next : ℕ) (v : Option Lowest) → next + 8 ≤ lo + size → Behind f m n lo → Finds f m lo size n v
+      → Searched f m n next v
+  searched_window n lo size next None room s none =
+      λ i j l u a b near. window_none lo size next i j room l a b (s i j l u a b near) near (none i u)
+  searched_window n lo size next (Some v) room s w =
+      let least = w.0 in
+      let below = least.below in
+      record {
+        below = below;
+        repeated = repeats_window lo size v.item least.holds;
+        reported = w.1;
+        behind = λ i j l u a b near. window_none lo size next i j room l a b (s i j l (omega arith) a b near) near (least.none i u);
+      }
 
-    -- all places
-    pub searched_all : (end : ℕ) (v : Lowest) → ((i : ℕ) → i < n → live f m i ≡ true → place_at f m i < end) → Searched f m n end v
-        → Lowers f m n v
-    searched_all end v below s = record {
-      lowest = least_first (repeats f m) n v.item (record { few = s.few; holds = s.repeated; none = λ i l. go i l (repeats f m i) refl });
-      reported = s.reported;
-    }
-      where
-        go : (i : ℕ) → i < v.item → (b : Bool) → repeats f m i ≡ b → repeats f m i ≡ false
-        go i l true e =
-            let few = s.few in
-            let r = repeats_pair i e in
-            let u = below i (omega arith) r.here in
-            let q = s.none i r.other r.before l r.here r.there r.near in
-            absurd (omega arith)
-        go i l false e = e
+  -- windows from low on are searched up to an end, each below what was found before it
+  pub record Searching (n low end : ℕ) (found : Option Lowest) : Type 0 where
+    pub few : before n found ≤ n
+    pub searched : Behind f m n low → Searched f m n end found
 
-    -- the item after those that are told apart, where it repeats in a window
-    pub found_next : (k lo size : ℕ) (v : Lowest) → k < n → Apart f m k → Finds f m lo size (record { item = k + 1; position = 0 }) v
-        → v.item ≤ k → Lowers f m n v
-    found_next k lo size v l apart w e = record {
-      lowest = least_first (repeats f m) n v.item (record {
-        few = omega arith;
-        holds = λ _. repeats_window lo size v.item (w.lowest.holds (omega arith));
-        none = λ i u. go i u (repeats f m i) refl;
-      });
-      reported = λ _. w.reported (omega arith);
-    }
-      where
-        go : (i : ℕ) → i < v.item → (b : Bool) → repeats f m i ≡ b → repeats f m i ≡ false
-        go i u true q = let r = repeats_pair i q in absurd (apart i r.other r.before (omega arith) r.here r.there r.near)
-        go i u false q = q
+  less : (n lo size : ℕ) (found here : Option Lowest) → before n found ≤ n → Finds f m lo size (before n found) here
+      → before n (option_or here found) ≤ n
+  less n lo size found None l w = l
+  less n lo size found (Some v) l w = let below = w.0.below in omega arith
+
+  more : (n lo size next : ℕ) (found here : Option Lowest) → next + 8 ≤ lo + size → Searched f m n lo found
+      → Finds f m lo size (before n found) here → Searched f m n next (option_or here found)
+  more n lo size next None None room s w = searched_window n lo size next None room s w
+  more n lo size next None (Some v) room s w = searched_window n lo size next (Some v) room s w
+  more n lo size next (Some u) None room s w =
+      record { below = s.below; repeated = s.repeated; reported = s.reported; behind = searched_window u.item lo size next None room s.behind w }
+  more n lo size next (Some u) (Some v) room s w =
+      let r = searched_window u.item lo size next (Some v) room s.behind w in
+      let a = s.below in
+      let b = r.below in
+      record { below = omega arith; repeated = r.repeated; reported = r.reported; behind = r.behind }
+
+  pub searching_next : (n low lo size next : ℕ) (found here : Option Lowest) → Searching n low lo found → next + 8 ≤ lo + size
+      → Finds f m lo size (before n found) here → Searching n low next (option_or here found)
+  searching_next n low lo size next found here s room w = record {
+    few = less n lo size found here s.few w;
+    searched = λ b. more n lo size next found here room (s.searched b) w;
+  }
+
+  -- no item repeats among those that are apart, and none where all places are searched
+  none_repeats : (n : ℕ) → ((i : ℕ) → Pair i → i < n → ⊥) → NoneBelow (repeats f m) n
+  none_repeats n never i u = go (repeats f m i) refl
+    where
+      go : (b : Bool) → repeats f m i ≡ b → repeats f m i ≡ false
+      go true q = absurd (never i (repeats_pair i q) u)
+      go false q = q
+
+  apart_none : (n : ℕ) → Apart f m n → NoneBelow (repeats f m) n
+  apart_none n apart = none_repeats n (λ i r u. apart i r.other r.before u r.here r.there r.near)
+
+  behind_none : (n end : ℕ) → ((i : ℕ) → i < n → live f m i ≡ true → place_at f m i < end) → Behind f m n end → NoneBelow (repeats f m) n
+  behind_none n end below s = none_repeats n (λ i r u.
+      let q = s i r.other r.before u r.here r.there r.near in
+      let l = below i u r.here in
+      omega arith)
+
+  pub lowers_apart : (n : ℕ) → Apart f m n → Lowers f m n None
+  lowers_apart n apart = sym (none_first (repeats f m) n (apart_none n apart))
+
+  pub lowers_rising : (n : ℕ) → Rising f m n → Lowers f m n None
+  lowers_rising n rising = lowers_apart n (rising_apart n rising)
+
+  -- all places
+  pub lowers_searched : (n end : ℕ) → ((i : ℕ) → i < n → live f m i ≡ true → place_at f m i < end) → (v : Option Lowest) → Searched f m n end v
+      → Lowers f m n v
+  lowers_searched n end below None s = sym (none_first (repeats f m) n (behind_none n end below s))
+  lowers_searched n end below (Some v) s =
+      let low = s.below in
+      record {
+        below = low;
+        lowest = least_first (repeats f m) n v.item (record {
+          below = low;
+          holds = s.repeated;
+          none = behind_none v.item end (λ i u e. below i (omega arith) e) s.behind;
+        });
+        reported = s.reported;
+      }
+
+  -- the item after those that are told apart, where it repeats in a window
+  pub lowers_next : (n k lo size : ℕ) (v : Lowest) → k < n → Apart f m k → Finds f m lo size (k + 1) (Some v) → Lowers f m n (Some v)
+  lowers_next n k lo size v l apart w =
+      let least = w.0 in
+      let few = least.below in
+      record {
+        below = omega arith;
+        lowest = least_first (repeats f m) n v.item (record {
+          below = omega arith;
+          holds = repeats_window lo size v.item least.holds;
+          none = apart_none v.item (λ i j u b. apart i j u (omega arith));
+        });
+        reported = w.1;
+      }

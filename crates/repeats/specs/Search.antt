@@ -1,10 +1,10 @@
 -- Windows of memory in which repeats are looked for one after the other.
 -- Assumes nothing.
-use Rattle.std.specs.Prelude.{ℕ, ◌≤◌, ◌<◌, ◌≡◌, true, false, List}
+use Rattle.std.specs.Prelude.{ℕ, ◌≤◌, ◌<◌, ◌≡◌, true, false, List, Option, Some, None}
 use Rattle.rules.specs.Relocations.{place_at, live, position_at}
 use Rattle.rules.specs.declared.Module.{Module}
 use Rattle.marks.specs.Map.{shares}
-use Rattle.windows.specs.Window.{Least, repeats_in, Holds}
+use Rattle.windows.specs.Window.{NoneBelow, Least, repeats_in, Holds}
 use Rattle.repeats.specs.Repeats.{repeats}
 use Rattle.repeats.specs.declared.Lowest.{Lowest}
 
@@ -22,28 +22,32 @@ overlap = 8
 -- ---- one window
 
 module _ (f : List ℕ) (m : Module) (lo size : ℕ) where
-  -- no entry below the item found repeats, and where that is no entry the map has the places of all
-  pub record Passed (found : Lowest) (map : List ℕ) : Type 0 where
-    pub none : (j : ℕ) → j < found.item → j < m.relocations.entries → repeats_in f m lo size j ≡ false
-    pub holds : m.relocations.entries ≤ found.item → Holds f m lo size m.relocations.entries map
+  -- no entry among the first n items repeats, and where all entries are among them the map has their places
+  pub record Passed (n : ℕ) (map : List ℕ) : Type 0 where
+    pub none : (j : ℕ) → j < n → j < m.relocations.entries → repeats_in f m lo size j ≡ false
+    pub holds : m.relocations.entries ≤ n → Holds f m lo size m.relocations.entries map
 
-  -- the lowest item below the one found that repeats in the window, with its position; the one found where there is none
-  pub record Finds (found v : Lowest) : Type 0 where
-    pub lowest : Least (repeats_in f m lo size) found.item v.item
-    pub reported : v.item < found.item → v.position ≡ position_at f m v.item
-    pub same : v.item ≡ found.item → v.position ≡ found.position
+  -- the lowest of the first n items that repeats in the window, with its position; none of them does
+  abbrev pub Finds : ℕ → Option Lowest → Type 0
+  Finds n (Some v) = Least (repeats_in f m lo size) n v.item × (v.position ≡ position_at f m v.item)
+  Finds n None = NoneBelow (repeats_in f m lo size) n
 
 -- ---- windows one after the other
 
 module _ (f : List ℕ) (m : Module) where
-  -- no place of the first n items is before the first window
-  abbrev pub Above : ℕ → ℕ → Type 0
-  Above n lo = (i : ℕ) → i < n → live f m i ≡ true → lo ≤ place_at f m i
+  -- where two of the first n items share a byte, the places of both are at an end or behind it
+  abbrev pub Behind : ℕ → ℕ → Type 0
+  Behind n end = (i j : ℕ) → j < i → i < n → live f m i ≡ true → live f m j ≡ true → shares (place_at f m j) (place_at f m i) ≡ true
+      → (end ≤ place_at f m i) × (end ≤ place_at f m j)
 
-  -- of the first n items a repeat was found, or none; none before it has the lower of its two places before the end of what was searched
-  pub record Searched (n end : ℕ) (v : Lowest) : Type 0 where
-    pub few : v.item ≤ n
-    pub repeated : v.item < n → repeats f m v.item ≡ true
-    pub reported : v.item < n → v.position ≡ position_at f m v.item
-    pub none : (i j : ℕ) → j < i → i < v.item → live f m i ≡ true → live f m j ≡ true → shares (place_at f m j) (place_at f m i) ≡ true
-        → (end ≤ place_at f m i) × (end ≤ place_at f m j)
+  -- a repeat among the first n items, with its position: none before it has the lower of its two places before an end
+  pub record Met (n end : ℕ) (v : Lowest) : Type 0 where
+    pub below : v.item < n
+    pub repeated : repeats f m v.item ≡ true
+    pub reported : v.position ≡ position_at f m v.item
+    pub behind : Behind v.item end
+
+  -- a search up to an end: a repeat, or none that has the lower of its two places before the end
+  abbrev pub Searched : ℕ → ℕ → Option Lowest → Type 0
+  Searched n end (Some v) = Met n end v
+  Searched n end None = Behind n end

@@ -3,6 +3,7 @@ pub mod BytesLaws
 pub mod OutcomeLaws
 pub mod ChecksLaws
 pub mod ResultLaws
+pub mod OptionLaws
 pub mod MemoryLaws
 pub mod SignedLaws
 pub mod Tests

@@ -16,9 +16,9 @@ use Rattle.rules.proofs.OutcomeLaws.{and_left, and_right}
 use Rattle.laws.proofs.Items.{entry-live, entry_place, packed-live}
 use Rattle.marks.specs.Map.{shares, hit, marked}
 use Rattle.marks.proofs.Laws.{hit_mark, shares_moved}
-use Rattle.windows.specs.Window.{in_window, entry_in, Wide, Empty, Met, kept, meets_in, repeats_in, Holds, Walked}
+use Rattle.windows.specs.Window.{in_window, entry_in, Wide, Empty, Met, NoneBelow, Least, kept, meets_in, repeats_in, Holds}
 use Rattle.rules.proofs.FirstLaws.{some_next}
-use Rattle.windows.proofs.LeastLaws.{least_hit, least_end, none_next}
+use Rattle.windows.proofs.LeastLaws.{none_next}
 
 -- ---- a place in the window
 
@@ -110,14 +110,14 @@ module _ (f : List ℕ) (m : Module) (lo size i : ℕ) where
 module _ (f : List ℕ) (m : Module) (lo size : ℕ) where
   -- before item i: none below it repeats, and the map has their places
   pub record Walking (i : ℕ) (map : List ℕ) : Type 0 where
-    pub none : (j : ℕ) → j < i → repeats_in f m lo size j ≡ false
+    pub none : NoneBelow (repeats_in f m lo size) i
     pub holds : Holds f m lo size i map
 
   pub walking_start : (map : List ℕ) → Empty map → Walking 0 map
   unfolding first
   walking_start map empty = record { none = λ j l. absurd (omega arith); holds = λ p. empty p }
 
-  module _ (n i : ℕ) (map : List ℕ) (w : Walking i map) where
+  module _ (i : ℕ) (map : List ℕ) (w : Walking i map) where
     module _ (r : Bool) (after : List ℕ) (met : Met lo (kept f m lo size i) (place_at f m i) map r after) where
       pub walking_next : Wide size map → r ≡ false → Walking (i + 1) after
       walking_next wide e = record {
@@ -125,14 +125,8 @@ module _ (f : List ℕ) (m : Module) (lo size : ℕ) where
         holds = met_holds f m lo size i map r after w.holds met wide e;
       }
 
-      pub walking_hit : (other : List ℕ) → i < n → r ≡ true → Walked f m lo size n i other
-      walking_hit other l e = record {
-        lowest = least_hit (repeats_in f m lo size) n i l (sym (met_repeats f m lo size i map r after w.holds met) ∙ e) w.none;
-        holds = λ q. absurd (omega arith);
-      }
+      pub walking_hit : (n : ℕ) → i < n → r ≡ true → Least (repeats_in f m lo size) n i
+      walking_hit n l e = record { below = l; holds = sym (met_repeats f m lo size i map r after w.holds met) ∙ e; none = w.none }
 
-    pub walking_end : i ≡ n → Walked f m lo size n i map
-    walking_end e = record {
-      lowest = rw e (least_end (repeats_in f m lo size) n (rw e at w.none));
-      holds = λ q. rw e at w.holds;
-    }
+    pub walking_end : (n : ℕ) → i ≡ n → NoneBelow (repeats_in f m lo size) n × Holds f m lo size n map
+    walking_end n e = (rw e at w.none, rw e at w.holds)

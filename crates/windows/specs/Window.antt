@@ -1,6 +1,6 @@
 -- A window of memory, of size bytes from lo on, with a map of the places there, counted from its start.
 -- Assumes nothing.
-use Rattle.std.specs.Prelude.{ℕ, ◌+◌, ◌*◌, ◌-◌, ◌≤◌, ◌<◌, ◌≡◌, Bool, true, false, cond, not, ◌&&◌, List, length, ltb, leb, eqb}
+use Rattle.std.specs.Prelude.{ℕ, ◌+◌, ◌*◌, ◌-◌, ◌≤◌, ◌<◌, ◌≡◌, Bool, true, false, cond, not, ◌&&◌, List, length, Option, Some, None, ltb, leb, eqb}
 use Rattle.rules.specs.Bytes.{le}
 use Rattle.rules.specs.First.{some_below}
 use Rattle.rules.specs.Relocations.{place_at, live}
@@ -32,11 +32,15 @@ pub record Met (lo : ℕ) (keep : Bool) (place : ℕ) (map : List ℕ) (r : Bool
 
 -- ---- the items of a window
 
--- the lowest index below n at which a test holds; n where there is none
+-- a test holds at no index below n
+abbrev pub NoneBelow : (ℕ → Bool) → ℕ → Type 0
+NoneBelow test n = (j : ℕ) → j < n → test j ≡ false
+
+-- v is the lowest index below n at which a test holds
 pub record Least (test : ℕ → Bool) (n v : ℕ) : Type 0 where
-  pub few : v ≤ n
-  pub holds : v < n → test v ≡ true
-  pub none : (j : ℕ) → j < v → test j ≡ false
+  pub below : v < n
+  pub holds : test v ≡ true
+  pub none : NoneBelow test v
 
 module _ (f : List ℕ) (m : Module) (lo size : ℕ) where
   -- item i, not skipped, is in the window
@@ -55,7 +59,7 @@ module _ (f : List ℕ) (m : Module) (lo size : ℕ) where
   abbrev pub Holds : ℕ → List ℕ → Type 0
   Holds n map = (p : ℕ) → hit map p ≡ some_below (meets_in (lo + p)) n
 
-  -- a walk over n items ends: at the lowest that repeats, or with the places of all in the map
-  pub record Walked (n v : ℕ) (map : List ℕ) : Type 0 where
-    pub lowest : Least repeats_in n v
-    pub holds : v ≡ n → Holds n map
+  -- a walk over n items ends: at the lowest that repeats, or, where none does, with the places of all in the map
+  abbrev pub Walked : ℕ → Option ℕ → List ℕ → Type 0
+  Walked n (Some v) map = Least repeats_in n v
+  Walked n None map = NoneBelow repeats_in n × Holds n map

@@ -34,18 +34,25 @@ fn meet_entry(map: &mut [u8], f: &[u8], at: usize, lo: u64, size: u64) -> bool
     meet_in(map, reads::le64(f, at), lo, size)
 }
 
-// The lowest of the first n entries that repeats in a window, or n; then the map has their places.
-pub fn meet_entries(map: &mut [u8], f: &[u8], r: Relocations, n: u32, lo: u64, size: u64) -> u32
+// The lowest of the first n entries that repeats in a window; where none does, the map has their places.
+pub fn meet_entries(
+    map: &mut [u8],
+    f: &[u8],
+    r: Relocations,
+    n: u32,
+    lo: u64,
+    size: u64,
+) -> Option<u32>
     requires { Wide size map.old × Empty map.old × (n ≤ r.entries) × (r.at + 24 * r.entries ≤ length f.now) }
     ensures { (m : Module) → m.relocations ≡ r → Walked f.now m lo size n result map.new }
 {
-    let mut i: u32 = 0;
-    'entries: while i < n {
+    let mut repeat = None;
+    'entries: for i in 0..n {
         let at = r.at as usize + 24 * (i as usize);
         if meet_entry(map, f, at, lo, size) {
+            repeat = Some(i);
             break 'entries;
         }
-        i += 1;
     }
-    i
+    repeat
 }

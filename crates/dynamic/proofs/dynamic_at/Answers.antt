@@ -1,7 +1,7 @@
 -- The tests in their order; a good size is not above the limit, so the count of entries fits.
 -- Assumes nothing.
 use mathlib.Core.Path.{sym}
-use borrow.Author.Tests.{lt-ltb, le-ltb}
+use Rattle.rules.proofs.OptionLaws.{then_some-there, then_some-none}
 use Rattle.dynamic.proofs.Laws.{good_size_lem}
 use Rattle.rules.specs.Dynamic.{dynamic_at}
 use native.Mathlib.Omega.{arith}
@@ -20,17 +20,18 @@ overflow_cast-n c =
     let h = good_size_lem c.args.size (sym c.if-not-is_good_size.ensures) in
     omega arith
 
-pub returns-then-n-entries : goal.returns-then-n-entries
+pub returns-in_default-null_entry : goal.returns-in_default-null_entry
 unfolding dynamic_at
-returns-then-n-entries c =
+returns-in_default-null_entry c =
     rw (
-      c.at-then-n-entries.ensures,
+      c.at-in_default-null_entry.ensures,
       c.in-Some.is,
       ← c.if-not-is_good_size.ensures,
-      ← c.null_entry-entries.ensures,
-      le-ltb _ _ c.if-n-entries.true,
+      then_some-none _ _ c.in_default-null_entry.ensures,
     )
 
 pub returns : goal.returns
 unfolding dynamic_at
-returns c = rw (c.in-Some.is, ← c.if-not-is_good_size.ensures, ← c.null_entry-entries.ensures, lt-ltb _ _ c.if-n-entries.false)
+returns c =
+    let e = then_some-there _ _ _ c.in-Some-null_entry.ensures in
+    rw (c.in-Some.is, ← c.if-not-is_good_size.ensures, e.0, ← e.1)

@@ -8,6 +8,3 @@ use Rattle.dynamic.proofs.dynamic_from.Given as goal
 
 abbrev pub invariant-loop-i : goal.invariant-loop-i
 invariant-loop-i l = (l.i ≤ l.h.count) × (first (is_dynamic_at l.f l.h) l.from (l.h.count - l.from) ≡ first (is_dynamic_at l.f l.h) l.i (l.h.count - l.i))
-
-abbrev pub decreases-loop-i : goal.decreases-loop-i
-decreases-loop-i l = l.h.count - l.i

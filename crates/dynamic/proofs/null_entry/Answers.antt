@@ -3,7 +3,8 @@
 use Rattle.rules.specs.Dynamic.{is_null_at, null_entry}
 use native.Mathlib.Nat.{sub-zero}
 use Rattle.rules.proofs.FirstLaws.{first_step, first-hit, first_none}
-use mathlib.Core.Path.{sym, ◌∙◌}
+use Rattle.rules.proofs.OptionLaws.{search-hit, search-miss}
+use mathlib.Core.Path.{◌∙◌}
 use native.Mathlib.Omega.{arith}
 use Rattle.dynamic.proofs.null_entry.Goals as goal
 
@@ -16,7 +17,8 @@ returns-then-is_null_at c =
     let l = c.loop-i in
     let a = c.args in
     let t = is_null_at a.f.now a.at in
-    sym (l.invariant.1 ∙ first-hit t l.i a.n (omega arith) (rw (← c.is_null_at.ensures) c.if-is_null_at.true))
+    let hit = l.invariant.1 ∙ first-hit t l.i a.n (omega arith) (rw (← c.is_null_at.ensures) c.if-is_null_at.true) in
+    search-hit _ l.i a.n hit (omega arith)
 
 pub loop-i-preserved : goal.loop-i-preserved
 loop-i-preserved c =
@@ -31,4 +33,4 @@ returns c =
     let l = c.loop-i in
     let a = c.args in
     let t = is_null_at a.f.now a.at in
-    sym (l.invariant.1 ∙ first_none t l.i a.n (omega arith) (omega arith))
+    search-miss _ a.n (l.invariant.1 ∙ first_none t l.i a.n (omega arith) (omega arith))

@@ -8,6 +8,3 @@ use Rattle.dynamic.proofs.null_entry.Given as goal
 
 abbrev pub invariant-loop-i : goal.invariant-loop-i
 invariant-loop-i l = (l.i ≤ l.n) × (first (is_null_at l.f l.at) 0 l.n ≡ first (is_null_at l.f l.at) l.i (l.n - l.i))
-
-abbrev pub decreases-loop-i : goal.decreases-loop-i
-decreases-loop-i l = l.n - l.i

@@ -1,7 +1,7 @@
 -- The value of the entry that is found.
 -- Assumes nothing.
 use Rattle.rules.specs.Dynamic.{entry_of, has_tag}
-use Rattle.entries.proofs.Laws.{then_some-there, then_some-none}
+use Rattle.rules.proofs.OptionLaws.{then_some-there, then_some-none}
 use Rattle.entries.proofs.entry_of.Goals as goal
 
 pub returns-in_err-i : goal.returns-in_err-i

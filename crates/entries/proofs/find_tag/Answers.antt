@@ -5,7 +5,8 @@ use native.Mathlib.Nat.{sub-zero}
 use Rattle.rules.proofs.FirstLaws.{first_step, first-hit, first_none}
 use mathlib.Core.Path.{◌≡◌, ◌∙◌}
 use native.Mathlib.Omega.{arith}
-use borrow.Author.Tests.{eq-eqb, ne_eqb, lt-ltb, le-ltb}
+use borrow.Author.Tests.{eq-eqb, ne_eqb}
+use Rattle.rules.proofs.OptionLaws.{search-hit, search-miss}
 use Rattle.entries.proofs.find_tag.Goals as goal
 
 pub loop-i-init : goal.loop-i-init
@@ -19,7 +20,7 @@ returns-then-tag_at-tag c =
     let t = has_tag_at a.f.now a.d a.tag in
     let e : tag_before a.f.now a.d a.tag a.n ≡ l.i =
     l.invariant.1 ∙ first-hit t l.i a.n (omega arith) (rw (← c.tag_at.ensures) (eq-eqb _ _ c.if-tag_at-tag.true)) in
-    rw (e, lt-ltb l.i a.n (omega arith))
+    search-hit _ l.i a.n e (omega arith)
 
 pub loop-i-preserved : goal.loop-i-preserved
 unfolding has_tag_at
@@ -36,4 +37,4 @@ returns c =
     let a = c.args in
     let t = has_tag_at a.f.now a.d a.tag in
     let e : tag_before a.f.now a.d a.tag a.n ≡ a.n = l.invariant.1 ∙ first_none t l.i a.n (omega arith) (omega arith) in
-    rw (e, le-ltb a.n a.n (omega arith))
+    search-miss _ a.n e

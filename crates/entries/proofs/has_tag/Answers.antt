@@ -1,7 +1,7 @@
 -- Some entry is found.
 -- Assumes nothing.
 use Rattle.rules.specs.Dynamic.{has_tag}
-use Rattle.entries.proofs.Laws.{is_some-then_some}
+use Rattle.rules.proofs.OptionLaws.{is_some-then_some}
 use Rattle.entries.proofs.has_tag.Goals as goal
 
 pub returns : goal.returns

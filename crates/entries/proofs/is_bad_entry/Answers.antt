@@ -1,7 +1,7 @@
 -- The row is looked up, then its rule, then an earlier entry with the tag.
 -- Assumes nothing.
 use Rattle.rules.specs.Dynamic.{bad_entry}
-use Rattle.entries.proofs.Laws.{is_some-then_some, then_some-there, then_some-none}
+use Rattle.rules.proofs.OptionLaws.{is_some-then_some, then_some-there, then_some-none}
 use Rattle.entries.proofs.is_bad_entry.Goals as goal
 
 pub returns-in_default : goal.returns-in_default

@@ -1,19 +1,20 @@
 -- The loop keeps what is seen of the items so far, the PT_LOAD and the file part found last, and where reading packed places stands.
 -- Assumes nothing.
-use Prim.Native.Nat.{◌-◌}
-use mathlib.Core.Path.{◌≡◌, refl, sym}
+use Rattle.std.specs.Prelude.{None}
+use Prim.Native.Nat.{ℕ, ◌-◌}
+use mathlib.Core.Path.{◌≡◌, refl, sym, subst}
 use mathlib.Core.Bool.{true}
 use native.Mathlib.Omega.{arith}
 use Rattle.rules.specs.Relocations.{items}
-use Rattle.places.specs.Ahead.{Next}
 use Rattle.places.proofs.ItemLaws.{reached_start, reached_more, come_next}
 use Rattle.segments.proofs.SpanLaws.{sound_none}
 use Rattle.parts.proofs.Laws.{parted_none}
 use Rattle.tallies.proofs.Laws.{words_room}
-use Rattle.entry_faults.proofs.Laws.{seeing_start, seeing_clear, seeing_judged, seen_fault, seen_end}
-use Rattle.faults.proofs.Laws.{clear_packed, reached_on, judged_fits}
+use Rattle.entry_faults.proofs.Laws.{seeing_start, seeing_clear, seeing_word, seen_fault, seen_end}
+use Rattle.faults.proofs.Laws.{clear_packed, reached_on, judged_fits, parted_or}
+use Rattle.entry_faults.specs.Seen.{SeesFrom}
 use Rattle.faults.proofs.see_places.Goals as goal
-use Rattle.faults.proofs.see_places.Goals.{then-run-eq1, else-run-eq1, then-is_clear_place, else-is_clear_place+else-e-ne0}
+use Rattle.faults.proofs.see_places.Goals.{then-is_clear_place, else-is_clear_place+in-Ok}
 
 pub overflow_add-n : goal.overflow_add-n
 overflow_add-n c = omega (arith, c.requires.0.few)
@@ -29,16 +30,6 @@ loop-i-init c =
       rw z (reached_start a.f.now a.m),
     )
 
-pub near_place-run-requires : goal.near_place-run-requires
-near_place-run-requires c =
-    let a = c.args in
-    let up = c.loop-i.invariant.0.above in
-    let r = c.loop-i.invariant.3 in (
-      r.standing,
-      reached_more a.f.now a.m c.loop-i.run c.loop-i.run _ r c.requires.0.counted (omega (arith, c.loop-i-test.true)),
-      c.if-run-eq1.true,
-    )
-
 pub next_place-run-requires : goal.next_place-run-requires
 next_place-run-requires c =
     let a = c.args in
@@ -50,12 +41,7 @@ pub packed_position-position-requires : goal.packed_position-position-requires
 packed_position-position-requires c =
     let a = c.args in
     let up = c.loop-i.invariant.0.above in
-    let next : Next a.f.now a.m.packed c.loop-i.run c.if-run-eq1.run =
-    elim c.if-run-eq1.branch [
-      | then-run-eq1 w ↦ rw w.run-is w.near_place-run.ensures
-      | else-run-eq1 w ↦ rw w.run-is w.next_place-run.ensures
-    ] in
-    ((come_next a.f.now a.m c.loop-i.run c.if-run-eq1.run c.loop-i.i up c.loop-i.invariant.3 next).here, up)
+    ((come_next a.f.now a.m c.loop-i.run c.next_place-run.result c.loop-i.i up c.loop-i.invariant.3 c.next_place-run.ensures).here, up)
 
 pub is_clear_place-requires : goal.is_clear_place-requires
 is_clear_place-requires c =
@@ -69,36 +55,29 @@ tally_clear-t-requires c =
     let up = c.loop-i.invariant.0.below in
     (omega arith, c.loop-i.invariant.0.tallied.some)
 
-pub judge_packed-e-requires : goal.judge_packed-e-requires
-judge_packed-e-requires c =
+pub judge_packed-requires : goal.judge_packed-requires
+judge_packed-requires c =
     (c.loop-i.invariant.1, c.requires.0.loads)
 
-pub returns-then-e-ne0 : goal.returns-then-e-ne0
-returns-then-e-ne0 c =
-    let a = c.args in
-    let l = c.loop-i in
-    let up = l.invariant.0.above in
-    let next : Next a.f.now a.m.packed l.run c.if-run-eq1.run =
-    elim c.if-run-eq1.branch [
-      | then-run-eq1 w ↦ rw w.run-is w.near_place-run.ensures
-      | else-run-eq1 w ↦ rw w.run-is w.next_place-run.ensures
-    ] in
-    let here = (come_next a.f.now a.m l.run c.if-run-eq1.run l.i up l.invariant.3 next).here in
-    seen_fault a.f.now a.m c.requires.0 a.bias a.m.relocations.entries (items a.m) l.t l.i l.invariant.0 c.loop-i-test.true
-    c.judge_packed-e.result (c.judge_packed-e.ensures l.i up (here.place up)) c.if-e-ne0.true c.packed_position-position.result
-    c.packed_position-position.ensures.reported
+pub find_part-requires : goal.find_part-requires
+find_part-requires c = (omega arith, c.requires.0.loads)
 
-pub tally_judged-t-requires : goal.tally_judged-t-requires
-tally_judged-t-requires c =
+pub tally_word-t-requires : goal.tally_word-t-requires
+tally_word-t-requires c =
     let a = c.args in
     let room = words_room a.f.now a.m a.bias c.loop-i.i c.loop-i.t c.loop-i.invariant.0.tallied in
     let few = c.requires.0.few in
     let up = c.loop-i.invariant.0.below in
-    (omega arith, c.packed_position-position.ensures.small)
+    omega arith
 
-pub find_part-part-requires : goal.find_part-part-requires
-find_part-part-requires c =
-    (omega arith, c.requires.0.loads)
+pub returns-in-Err : goal.returns-in-Err
+returns-in-Err c =
+    let a = c.args in
+    let l = c.loop-i in
+    let up = l.invariant.0.above in
+    let here = (come_next a.f.now a.m l.run c.next_place-run.result l.i up l.invariant.3 c.next_place-run.ensures).here in
+    rw c.at.ensures (seen_fault a.f.now a.m c.requires.0 a.bias a.m.relocations.entries (items a.m) l.t l.i l.invariant.0 c.loop-i-test.true
+    c.in-Err.reason (c.in-Err.ensures l.i up (here.place up)) c.packed_position-position.result c.packed_position-position.ensures.reported)
 
 pub loop-i-preserved : goal.loop-i-preserved
 loop-i-preserved c =
@@ -106,12 +85,7 @@ loop-i-preserved c =
     let k = a.m.relocations.entries in
     let l = c.loop-i in
     let up = l.invariant.0.above in
-    let next : Next a.f.now a.m.packed l.run c.if-run-eq1.run =
-    elim c.if-run-eq1.branch [
-      | then-run-eq1 w ↦ rw w.run-is w.near_place-run.ensures
-      | else-run-eq1 w ↦ rw w.run-is w.next_place-run.ensures
-    ] in
-    let come = come_next a.f.now a.m l.run c.if-run-eq1.run l.i up l.invariant.3 next in
+    let come = come_next a.f.now a.m l.run c.next_place-run.result l.i up l.invariant.3 c.next_place-run.ensures in
     elim c.if-is_clear_place.branch [
       | then-is_clear_place w ↦
           let q = clear_packed a.f.now a.m c.requires.0 l.i up a.bias _ (come.here.place up) (c.is_clear_place.ensures w.if-is_clear_place.true) in (
@@ -123,21 +97,21 @@ loop-i-preserved c =
             rw w.part-is l.invariant.2,
             reached_on a.f.now a.m c.requires.0 l.i up _ come q.fits,
           )
-      | else-is_clear_place+else-e-ne0 w ↦
-          let judged = w.judge_packed-e.ensures l.i up (come.here.place up) in (
+      | else-is_clear_place+in-Ok w ↦
+          let word = w.in-Ok.ensures l.i up (come.here.place up) in (
             rw w.t-is
-                (seeing_judged a.f.now a.m c.requires.0 a.bias k (items a.m) l.t l.i l.invariant.0 c.loop-i-test.true w.judge_packed-e.result
-                judged w.if-e-ne0.false c.packed_position-position.result _ c.packed_position-position.ensures.reported
-                w.tally_judged-t.ensures.kept w.tally_judged-t.ensures.skipped),
-            rw w.span-is judged.sound,
-            rw w.part-is w.find_part-part.ensures,
-            reached_on a.f.now a.m c.requires.0 l.i up _ come
-                (judged_fits a.f.now a.m c.requires.0 l.i up a.bias w.judge_packed-e.result judged w.if-e-ne0.false),
+                (seeing_word a.f.now a.m c.requires.0 a.bias k (items a.m) l.t l.i l.invariant.0 c.loop-i-test.true w.in-Ok.word word
+                c.packed_position-position.result c.packed_position-position.ensures.reported w.tally_word-t.result w.tally_word-t.ensures),
+            rw w.span-is word.sound,
+            rw (w.part-is, w.unwrap_or-part.ensures) (parted_or a.f.now a.m.headers _ 8 w.find_part.result w.find_part.ensures),
+            reached_on a.f.now a.m c.requires.0 l.i up _ come (judged_fits a.f.now a.m c.requires.0 l.i up a.bias w.in-Ok.word word),
           )
     ]
 
 pub returns : goal.returns
 returns c =
     let a = c.args in
-    seen_end a.f.now a.m c.requires.0 a.bias a.m.relocations.entries (items a.m) c.loop-i.t c.loop-i.i c.loop-i.invariant.0
-    c.loop-i-test.false
+    let l = c.loop-i in
+    let e : l.i ≡ items a.m = omega (arith, l.invariant.0.below, c.loop-i-test.false) in
+    let s = seen_end a.f.now a.m c.requires.0 a.bias a.m.relocations.entries (items a.m) l.t l.i l.invariant.0 c.loop-i-test.false in
+    subst (λ (x : ℕ). SeesFrom a.f.now a.m a.bias a.m.relocations.entries (record { item = x; fault = None; tally = l.t })) e s

@@ -12,6 +12,3 @@ use Rattle.faults.proofs.see_places.Given as goal
 abbrev pub invariant-loop-i : goal.invariant-loop-i
 invariant-loop-i l = Seeing l.f l.m l.bias l.m.relocations.entries (items l.m) l.t l.i × Sound l.f l.m.headers true l.span × Parted l.f l.m.headers true l.part
     × Reached l.f l.m l.run (l.i - l.m.relocations.entries)
-
-abbrev pub decreases-loop-i : goal.decreases-loop-i
-decreases-loop-i l = l.n - l.i

@@ -5,24 +5,15 @@ use native.Mathlib.Omega.{arith}
 use Rattle.repeats.proofs.WindowLaws.{entry_finds, entries_passed}
 use Rattle.repeats.proofs.meet_items.Goals as goal
 
-pub meet_entries-i-requires : goal.meet_entries-i-requires
-meet_entries-i-requires c =
-    (omega (arith, c.requires.0), c.requires.1, c.least-n.ensures.1, c.requires.2.inside)
-
-pub returns-then-i-n : goal.returns-then-i-n
-returns-then-i-n c =
+pub returns-in-Some : goal.returns-in-Some
+returns-in-Some c =
     let a = c.args in
-    entry_finds a.f.now a.m a.lo a.size a.found c.least-n.result c.least-n.ensures.0 c.least-n.ensures.1 _ _ (c.meet_entries-i.ensures a.m refl)
-    c.if-i-n.true
+    entry_finds a.f.now a.m a.lo a.size a.n c.min-k.result (omega arith) c.in-Some.i (c.in-Some.ensures a.m refl)
 
 pub meet_packed-requires : goal.meet_packed-requires
 meet_packed-requires c =
     let a = c.args in (
-      omega (arith, c.meet_entries-i.auto.map, c.requires.0),
+      omega (arith, c.meet_entries.auto.map, c.requires.0),
       c.requires.2,
-      entries_passed a.f.now a.m a.lo a.size a.found c.least-n.result c.least-n.ensures.0 c.least-n.ensures.1 _ _ (c.meet_entries-i.ensures a.m refl)
-          (omega arith) c.least-n.ensures.2 c.least-n.ensures.3,
+      entries_passed a.f.now a.m a.lo a.size a.n c.min-k.result (omega arith) _ (c.in_default.ensures a.m refl),
     )
-
-pub returns : goal.returns
-returns c = c.meet_packed.ensures
