@@ -2,7 +2,7 @@
 #![tactic(auto)]
 
 use bench_images::LONG_FILE;
-use bench_runs::BIAS;
+use bench_runs::{BIAS, TAGS};
 use rules::{ENTRY_LIMIT, GLOBAL_LIMIT};
 use std::io;
 
@@ -21,9 +21,6 @@ const LAST: usize = FILE + 8 * (ENTRY_LIMIT - 1);
 // The start of the last global that a module may have.
 const LAST_GLOBAL: u64 = 16 * (GLOBAL_LIMIT as u64 - 1);
 
-// The cases from here on have many globals.
-const FIRST_OF_GLOBALS: u32 = 5;
-
 // A place by a word, 1,040 bitmaps of 63 and a last one of 15 or 16.
 const BITMAPS: u32 = 1041;
 
@@ -38,92 +35,72 @@ fn put_choices(choices: &mut [u8]) {
     }
 }
 
-// The image of a case, over zeros; what its line begins with.
-fn put_case(rt: &impl Print, f: &mut [u8], case: u32) -> io::Result<()> {
-    let entries = ENTRY_LIMIT as u32;
-    if case == 0 {
-        print!(rt; "65536 relocations: ")?;
-        bench_images::put_long(f, MEMORY as u64, entries, 0x10c0);
-        return Ok(());
-    }
-    if case == 1 {
-        print!(rt; "65537 relocations: ")?;
-        bench_images::put_long(f, MEMORY as u64, entries + 1, 0x10c0);
-        return Ok(());
-    }
-    if case == 2 {
-        print!(rt; "65536 relocations, the last at the first place: ")?;
-        bench_images::put_repeated(f, MEMORY as u64, entries, 0x10c0);
-        return Ok(());
-    }
-    if case == 3 {
-        print!(rt; "65536 packed places: ")?;
-        bench_images::put_packed_long(f, MEMORY as u64, BITMAPS, FIFTEEN_BITS);
-        return Ok(());
-    }
-    if case == 4 {
-        print!(rt; "65537 packed places: ")?;
-        bench_images::put_packed_long(f, MEMORY as u64, BITMAPS, SIXTEEN_BITS);
-        return Ok(());
-    }
-    if case == FIRST_OF_GLOBALS {
-        print!(rt; "65536 globals: ")?;
-        bench_images::put_globals(f, MEMORY as u64, GLOBAL_LIMIT, LAST as u64, LAST_GLOBAL);
-        return Ok(());
-    }
-    print!(rt; "65537 globals: ")?;
-    bench_images::put_globals(f, MEMORY as u64, GLOBAL_LIMIT + 1, LAST as u64, LAST_GLOBAL);
-    Ok(())
-}
-
-// Loads the image of a case; the word is that of the last place.
-fn run_lent(
-    rt: &impl Print,
-    f: &mut [u8],
-    case: u32,
-    memory: &mut [u8],
-    plane: &mut [u8],
-    choices: &mut [u8],
-) -> io::Result<()> {
-    put_case(rt, f, case)?;
-    if case < FIRST_OF_GLOBALS {
-        return bench_runs::run_load(rt, f, BIAS, memory, plane, b"\x03\x09\x05", LAST);
-    }
-    put_choices(choices);
-    bench_runs::run_load(rt, f, BIAS, memory, plane, choices, LAST)
-}
-
-// Each large array is in a function by itself.
-fn lend_choices(
-    rt: &impl Print,
-    f: &mut [u8],
-    case: u32,
-    memory: &mut [u8],
-    plane: &mut [u8],
-) -> io::Result<()> {
-    let mut choices = [0u8; CHOICES];
-    run_lent(rt, f, case, memory, plane, &mut choices)
-}
-
-fn lend_plane(rt: &impl Print, f: &mut [u8], case: u32, memory: &mut [u8]) -> io::Result<()> {
+// Loads an image that `put` writes over zeros, with the tags of its globals; the word is that of the last place. Each large array is in a
+// function by itself, and a call is not inlined: so the arrays of many calls are on the stack once.
+fn lend_plane(rt: &impl Print, f: &[u8], choices: &[u8], memory: &mut [u8]) -> io::Result<()> {
     let mut plane = [0u8; PLANE];
-    lend_choices(rt, f, case, memory, &mut plane)
+    bench_runs::run_load(rt, f, BIAS, memory, &mut plane, choices, LAST)
 }
 
-fn lend_memory(rt: &impl Print, f: &mut [u8], case: u32) -> io::Result<()> {
+fn lend_memory(rt: &impl Print, f: &[u8], choices: &[u8]) -> io::Result<()> {
     let mut memory = [0u8; MEMORY];
-    lend_plane(rt, f, case, &mut memory)
+    lend_plane(rt, f, choices, &mut memory)
 }
 
-fn run_case(rt: &impl Print, case: u32) -> io::Result<()> {
+#[inline(never)]
+fn run_limit<F: Fn(&mut [u8])>(
+    rt: &impl Print,
+    name: &[u8],
+    choices: &[u8],
+    put: F,
+) -> io::Result<()>
+    requires { F.IsAlwaysCallable put }
+{
     let mut f = [0u8; FILE];
-    lend_memory(rt, &mut f, case)
+    rt.write_all(name)?;
+    put(&mut f);
+    lend_memory(rt, &f, choices)
 }
 
-// All cases, by one call in a loop: their arrays are on the stack once.
+// As many relocations as a module may have, and one more.
+fn run_relocations(rt: &impl Print) -> io::Result<()> {
+    let entries = ENTRY_LIMIT as u32;
+    run_limit(rt, b"65536 relocations: ", TAGS, |f| {
+        bench_images::put_long(f, MEMORY as u64, entries, 0x10c0)
+    })?;
+    run_limit(rt, b"65537 relocations: ", TAGS, |f| {
+        bench_images::put_long(f, MEMORY as u64, entries + 1, 0x10c0)
+    })?;
+    run_limit(rt, b"65536 relocations, the last at the first place: ", TAGS, |f| {
+        bench_images::put_repeated(f, MEMORY as u64, entries, 0x10c0)
+    })
+}
+
+// The same of packed places.
+fn run_packed(rt: &impl Print) -> io::Result<()> {
+    run_limit(rt, b"65536 packed places: ", TAGS, |f| {
+        bench_images::put_packed_long(f, MEMORY as u64, BITMAPS, FIFTEEN_BITS)
+    })?;
+    run_limit(rt, b"65537 packed places: ", TAGS, |f| {
+        bench_images::put_packed_long(f, MEMORY as u64, BITMAPS, SIXTEEN_BITS)
+    })
+}
+
+// The same of globals.
+fn run_globals(rt: &impl Print) -> io::Result<()> {
+    let mut choices = [0u8; CHOICES];
+    put_choices(&mut choices);
+    run_limit(rt, b"65536 globals: ", &choices, |f| {
+        bench_images::put_globals(f, MEMORY as u64, GLOBAL_LIMIT, LAST as u64, LAST_GLOBAL)
+    })?;
+    run_limit(rt, b"65537 globals: ", &choices, |f| {
+        bench_images::put_globals(f, MEMORY as u64, GLOBAL_LIMIT + 1, LAST as u64, LAST_GLOBAL)
+    })
+}
+
+// All of these.
 pub fn run_limits(rt: &impl Print) -> io::Result<()> {
-    for case in 0..7 {
-        run_case(rt, case)?;
-    }
-    Ok(())
+    run_relocations(rt)?;
+    run_packed(rt)?;
+    run_globals(rt)
 }

@@ -2,7 +2,7 @@
 #![tactic(auto)]
 
 use bench_images::SHEET_PLACE;
-use rules::{Answer, GRANULE, ModuleAnswer};
+use rules::GRANULE;
 use std::io;
 
 // Bytes of an image.
@@ -13,8 +13,10 @@ const SHEET_MEMORY: usize = 0x2000;
 
 const SHEET_PLANE: usize = 0x200;
 
-// The bias of the sheet.
+// The bias of the sheet, and the tags of its three globals.
 pub const BIAS: u64 = 0x40000000;
+
+pub const TAGS: &[u8] = b"\x03\x09\x05";
 
 // Loads an image; writes the globals, the words relocated and the word at a place, or the refusal.
 pub fn run_load(
@@ -26,12 +28,9 @@ pub fn run_load(
     choices: &[u8],
     place: usize,
 ) -> io::Result<()> {
-    let answer = load::load_module(f, bias, memory, plane, choices);
-    match answer {
-        Answer::Taken(facts) => {
-            bench_report::print_taken(rt, facts, reads::read64(memory, place))
-        }
-        Answer::Refused(r) => bench_report::print_refusal(rt, r),
+    match load::load_module(f, bias, memory, plane, choices) {
+        Ok(facts) => bench_report::print_taken(rt, facts, reads::read64(memory, place)),
+        Err(r) => println!(rt; "{r}"),
     }
 }
 
@@ -65,7 +64,7 @@ pub fn run_sheet(
     addend: u64,
     loaded: u64,
 ) -> io::Result<()> {
-    run_choices(rt, name, bias, addend, loaded, b"\x03\x09\x05")
+    run_choices(rt, name, bias, addend, loaded, TAGS)
 }
 
 // With an align of its PT_LOAD.
@@ -73,27 +72,25 @@ pub fn run_aligned(rt: &impl Print, name: &[u8], align: u64, bias: u64) -> io::R
     let mut f = [0u8; FILE];
     bench_images::put_sheet(&mut f, SHEET_MEMORY as u64, 0x10c0, 0);
     bench_images::put_align(&mut f, align);
-    run_image(rt, &f, name, bias, b"\x03\x09\x05")
+    run_image(rt, &f, name, bias, TAGS)
 }
 
 // With a packed table of one word.
 pub fn run_packed(rt: &impl Print, name: &[u8], word: u64, loaded: u64) -> io::Result<()> {
     let mut f = [0u8; FILE];
     bench_images::put_packed(&mut f, SHEET_MEMORY as u64, word, loaded);
-    run_image(rt, &f, name, BIAS, b"\x03\x09\x05")
+    run_image(rt, &f, name, BIAS, TAGS)
 }
 
 // Makes every check of a load into memory of so many bytes, with a plane of a sixteenth; writes the globals and the words to relocate, or
 // the refusal. Nothing is lent and nothing written, so that memory may be longer than a program's own.
 fn print_checks(rt: &impl Print, f: &[u8], memory: u64) -> io::Result<()> {
-    let read = elf::read_module(f);
-    let ModuleAnswer::Found(m) = read else {
+    let Ok(m) = elf::read_module(f) else {
         return println!(rt; "not read");
     };
-    let answer = checks::check_load(f, m, BIAS, memory, memory / GRANULE, b"\x03\x09\x05");
-    match answer {
-        Answer::Taken(facts) => bench_report::print_facts(rt, facts),
-        Answer::Refused(r) => bench_report::print_refusal(rt, r),
+    match checks::check_load(f, m, BIAS, memory, memory / GRANULE, TAGS) {
+        Ok(facts) => bench_report::print_facts(rt, facts),
+        Err(r) => println!(rt; "{r}"),
     }
 }
 

@@ -20,7 +20,10 @@ const AFTER: usize = 24;
 fn print_step(rt: &impl Print, step: Result<Option<(Global, Cursor)>, Refusal>) -> io::Result<()> {
     match step {
         Ok(Some((g, c))) => {
-            println!(rt; "global {} {} {} {}", g.start, g.granules, c.position, c.end)
+            println!(rt;
+                "global {} {} {} {}",
+                g.start, g.granules, c.position, c.end
+            )
         }
         Ok(None) => println!(rt; "finished"),
         Err(r) => println!(rt; "{r}"),
@@ -51,9 +54,10 @@ fn answer_case(rt: &impl Print, s: &[u8]) -> io::Result<usize>
 }
 
 fn answer_all(rt: &impl Print, s: &[u8]) -> io::Result<()> {
-    let mut at = 0;
-    while at < s.len() {
-        at += answer_case(rt, &s[at..])?;
+    let mut rest = s;
+    while !rest.is_empty() {
+        let n = answer_case(rt, rest)?;
+        rest = &rest[n..];
     }
     Ok(())
 }

@@ -7,4 +7,4 @@ use Rattle.rules.specs.Choices.{globals_in}
 use Rattle.printing.proofs.print_globals.Given as goal
 
 abbrev pub invariant-loop-i : goal.invariant-loop-i
-invariant-loop-i g l = Walk l.f l.m.headers l.table (globals_in l.f l.m) l.i l.cursor × (length (globals_in l.f l.m) ≡ l.globals)
+invariant-loop-i g l = Walk l.f l.m.headers l.table (globals_in l.f l.m) l.i l.cursor × (length (globals_in l.f l.m) ≡ l.m.globals)

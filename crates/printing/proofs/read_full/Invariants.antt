@@ -1,6 +1,7 @@
 -- What was read stays within the bytes.
+-- Assumes nothing.
 use Rattle.std.proofs.Common.{◌-◌, ◌≤◌, length}
-use Rattle.descriptor_vectors.proofs.read_full.Given as goal
+use Rattle.printing.proofs.read_full.Given as goal
 
 abbrev pub invariant-loop-done : goal.invariant-loop-done
 invariant-loop-done g l = l.done ≤ length l.bytes
