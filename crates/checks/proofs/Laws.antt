@@ -1,12 +1,11 @@
 -- Checks 10 to 14 by their stages: the walk of the items, then the rest.
 -- Assumes nothing.
-use Prim.Native.Nat.{ℕ, ◌+◌, ◌-◌}
+use Rattle.std.specs.Prelude.{Some, None}
+use Prim.Native.Nat.{ℕ}
 use mathlib.Core.Path.{◌≡◌, refl, sym, ◌∙◌}
 use mathlib.Core.Bool.{Bool, true, false, cond}
 use mathlib.Core.List.{List}
-use native.Mathlib.Omega.{arith}
 use lib.Dec.{eqb}
-use borrow.Author.Tests.{ne_eqb}
 use Rattle.rules.specs.Outcome.{good, bad, refuse, and_then, Refusal}
 use Rattle.rules.specs.Checks.{Check, runs, checked}
 use Rattle.rules.specs.First.{first, faults_at}
@@ -21,36 +20,27 @@ use Rattle.rules.specs.Load.{call_checks}
 use Rattle.rules.specs.Answers.{count_of}
 use Rattle.rules.specs.declared.Module.{Module}
 use Rattle.rules.specs.declared.Walked.{Walked}
-use Rattle.rules.specs.declared.Checked.TheVariants as answer
 use Rattle.demands.proofs.Reading.{module_reads}
 use Rattle.tallies.specs.Tallies.{mark_of}
 use Rattle.relocations.specs.Walk.{walk_of}
 use Rattle.relocations.proofs.Laws.{walk_found, walk_refused}
-use Rattle.checks.specs.Lent.{mark_check, lent_in}
+use Rattle.checks.specs.Lent.{outside_check, lent_in}
 
 -- a module's globals are counted
 pub module_count : (f : List ℕ) (m : Module) → module_of f ≡ good m → count_of (globals_of f m.headers m.descriptors) ≡ good m.globals
 module_count f m e = let r = module_reads f m e in rw (r.globals, r.count)
 
--- a refusal is told once
-pub refused_once : (p q : Refusal) → answer.Refused p ≡ answer.Refused q → p ≡ q
-refused_once p q e = cc
-
--- the first fault's mark tells the check
-mark_check_lem : (number : ℕ) (hit : ℕ → Bool) (position : ℕ → ℕ) (n : ℕ)
-    → mark_check number (mark_of hit position n) ≡ faults_at number position hit n
-unfolding mark_check mark_of
-mark_check_lem number hit position n = go (eqb (first hit 0 n) n)
+-- the first fault's position tells the check
+outside_check_lem : (hit : ℕ → Bool) (position : ℕ → ℕ) (n : ℕ) → outside_check (mark_of hit position n) ≡ faults_at 13 position hit n
+unfolding outside_check mark_of
+outside_check_lem hit position n = go (eqb (first hit 0 n) n)
   where
-    k : ℕ
-    k = position (first hit 0 n)
-
     passed : Check
     passed = good tt
 
-    go : (b : Bool) → cond (eqb (cond b 0 (k + 1)) 0) passed (refuse number (cond b 0 (k + 1) - 1)) ≡ cond b passed (refuse number k)
+    go : (b : Bool) → outside_check (cond b None (Some (position (first hit 0 n)))) ≡ cond b passed (refuse 13 (position (first hit 0 n)))
     go true = refl
-    go false = let q : k + 1 - 1 ≡ k = omega arith in rw (ne_eqb (k + 1) 0 (λ z. omega arith), q)
+    go false = refl
 
 module _ (f : List ℕ) (m : Module) (bias n p : ℕ) (choices : List ℕ) where
   abbrev Checks : Check
@@ -64,7 +54,7 @@ module _ (f : List ℕ) (m : Module) (bias n p : ℕ) (choices : List ℕ) where
   unfolding lent_in addresses_check
   checks_walked w e =
       let k = walk_found f m bias w e in
-      rw (k.passes, k.outside, mark_check_lem 13 (bad_address f m bias) (position_at f m) (items m))
+      rw (k.passes, k.outside, outside_check_lem (bad_address f m bias) (position_at f m) (items m))
       (go (lending_check f m bias n p) (addresses_check f m bias) (choices_check f m choices))
     where
       go : (a b c : Check) → and_then a (λ _. and_then b (λ _. c)) ≡ and_then a (λ _. and_then b (λ _. and_then c (λ _. good tt)))

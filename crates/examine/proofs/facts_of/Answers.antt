@@ -8,10 +8,10 @@ unfolding facts_of
 returns c =
     rw (
       c.requires,
-      c.switch_of-2.ensures,
+      c.from-3.ensures,
       c.entry_of-3.ensures,
-      c.switch_of.ensures,
+      c.from-2.ensures,
       c.entry_of-2.ensures,
-      c.mode_of.ensures,
+      c.from.ensures,
       c.entry_of.ensures,
     )
