@@ -36,7 +36,7 @@ pub fn fill_at(m: &mut [u8], at: usize, count: usize, v: u8)
     m[at..end].fill(v);
 }
 
-// The eight bytes of m from at on become those of w, the lowest first.
+// The eight bytes of m from at on become those of w, the lowest first. Where they fit they are one store.
 pub fn put64(m: &mut [u8], at: usize, w: u64)
     ensures { m.new ≡ put_word m.old at w }
 {

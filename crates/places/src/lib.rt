@@ -44,7 +44,7 @@ pub fn word_at(f: &[u8], at: u32, k: u32) -> u64
     reads::read64(f, position as usize)
 }
 
-// The next place, where the lowest bit left names none. Words that name none are passed over.
+// The next place, where the lowest bit left names none. Words that name none are passed over. Not inlined, so that `next_place` can be.
 #[inline(never)]
 fn far_place(f: &[u8], t: Packed, c: Run) -> Run
     requires { Standing f.now t c × (0 < length (ahead f.now t c)) }
