@@ -9,7 +9,7 @@ use native.Mathlib.Omega.{arith}
 use native.Mathlib.Nat.{eq-or-lt_of_le}
 use lib.ListN.{length}
 use lib.Dec.{eqb}
-use borrow.Author.Tests.{eqb-true, eq-eqb, ne_eqb}
+use borrow.Author.Tests.{eqb-true, ne_eqb}
 use Rattle.rules.specs.Bytes.{le}
 use Rattle.rules.specs.Relocations.{entry_at, place_at, live}
 use Rattle.rules.specs.declared.Module.{Module}
@@ -23,25 +23,8 @@ use Rattle.apart.specs.Apart.{unsure, Met, Spread, Within}
 
 -- ---- one place
 
--- a place that starts inside a word; one that starts a word
-pub met_inside : (d : ℕ) (map : List ℕ) → (d % 8 ≡ 0 → ⊥) → Met true d map true map
-unfolding unsure
-met_inside d map e = record { told = rw (ne_eqb (d % 8) 0 e); put = λ z. absurd (true_false z) }
-
-pub met_word : (d : ℕ) (map : List ℕ) (r : Bool) (after : List ℕ) → d % 8 ≡ 0 → r ≡ has map (d / 8)
-    → (r ≡ false → after ≡ with_word map (d / 8)) → Met true d map r after
-unfolding unsure
-met_word d map r after e h p = record { told = rw (eq-eqb (d % 8) 0 e) h; put = p }
-
--- one that does not count
-pub met_none : (counts : Bool) (d : ℕ) (map : List ℕ) → counts ≡ false → Met counts d map false map
-met_none counts d map e = rw e (record { told = refl; put = λ _. refl })
-
--- an entry of kind 0 does not count, any other does
-pub skip_entry : (kind : ℕ) → kind ≡ 0 → not (eqb kind 0) ≡ false
-skip_entry kind e = rw (eq-eqb kind 0 e)
-
-pub read_entry : (kind : ℕ) → (kind ≡ 0 → ⊥) → not (eqb kind 0) ≡ true
+-- an entry of another kind than 0 counts
+read_entry : (kind : ℕ) → (kind ≡ 0 → ⊥) → not (eqb kind 0) ≡ true
 read_entry kind e = rw (ne_eqb kind 0 e)
 
 -- told apart: a word of its own

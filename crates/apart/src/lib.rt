@@ -33,14 +33,12 @@ const MIDDLE: u64 = 64 * (MIDDLE_MAP as u64);
 const LARGE: u64 = 64 * (LARGE_MAP as u64);
 
 // Puts the word of a place at a distance from the lowest into the map; whether the place is not told apart from those before.
+#[tactic(auto, unfolding(crate::specs::Apart::unsure))]
 fn meet_place(map: &mut [u8], distance: u64) -> bool
     requires { distance < 64 * length map.old }
     ensures { Met true distance map.old result map.new }
 {
-    if distance % 8 != 0 {
-        return true;
-    }
-    bits::meet_word(map, distance / 8)
+    distance % 8 != 0 || bits::meet_word(map, distance / 8)
 }
 
 // The same for the entry at a position of the file, unless it is skipped.
@@ -48,10 +46,7 @@ fn meet_entry(map: &mut [u8], f: &[u8], at: usize, lo: u64) -> bool
     requires { (at + 24 ≤ length f.now) × ((le 4 f.now (at + 8) ≡ 0 → ⊥) → (lo ≤ le 8 f.now at) × (le 8 f.now at - lo < 64 * length map.old)) }
     ensures { Met (not (eqb (le 4 f.now (at + 8)) 0)) (le 8 f.now at - lo) map.old result map.new }
 {
-    if reads::le32(f, at + 8) == 0 {
-        return false;
-    }
-    meet_place(map, reads::le64(f, at) - lo)
+    reads::le32(f, at + 8) != 0 && meet_place(map, reads::le64(f, at) - lo)
 }
 
 // The first of n entries that is not told apart; where all are, the map has their words.

@@ -1,7 +1,8 @@
 -- Checks 10 and 11 by two searches: the lowest item with a fault of its own, and the lowest before it that repeats an earlier place.
 -- Assumes nothing.
+use Rattle.std.specs.Prelude.{Option, Some, None}
 use Prim.Native.Nat.{ℕ, ◌%◌, ◌≤◌, ◌<◌}
-use mathlib.Core.Path.{◌≡◌, refl, sym, ap, ◌∙◌}
+use mathlib.Core.Path.{◌≡◌, refl, sym, ap, subst, ◌∙◌}
 use mathlib.Core.Bool.{Bool, true, false, cond, not, ◌&&◌, ◌||◌}
 use mathlib.Core.List.{List}
 use mathlib.Core.Logic.{⊎_elim}
@@ -9,7 +10,11 @@ use native.Mathlib.Nat.{sub-zero, eq-or-lt_of_le}
 use native.Mathlib.Omega.{arith}
 use lib.Dec.{ltb, eqb}
 use borrow.Author.Tests.{eq-eqb, ne_eqb, eqb-true}
-use Rattle.rules.specs.Outcome.{good, bad, refuse, Refusal}
+use Rattle.rules.specs.Outcome.{good, bad, refuse}
+use Rattle.rules.specs.Outcome as outcome
+use Rattle.rules.specs.Answers.{number_of}
+use Rattle.rules.specs.declared.Refusal.{Refusal}
+use Rattle.judging.proofs.Laws.{number_some}
 use Rattle.rules.specs.First.{first, some_below}
 use Rattle.rules.specs.Addresses.{bad_address}
 use Rattle.rules.specs.Relocations.{place_at, live, items, position_at, target_at, barred}
@@ -22,7 +27,7 @@ use Rattle.laws.proofs.Checks.{and_then_bad}
 use Rattle.judging.specs.Judges.{item_fault, has_fault}
 use Rattle.entry_faults.specs.declared.Seen.{Seen}
 use Rattle.tallies.specs.Tallies.{mark_of}
-use Rattle.entry_faults.specs.Seen.{Sees}
+use Rattle.entry_faults.specs.Seen.{Sees, Says}
 use Rattle.entry_faults.proofs.Laws.{no_fault, faultless_item}
 use Rattle.faults.proofs.Laws.{sees_none}
 use Rattle.marks.specs.Map.{shares}
@@ -96,60 +101,68 @@ module _ (f : List ℕ) (m : Module) where
   pub seen_few : (bias : ℕ) (s : Seen) → Sees f m bias (items m) s → s.item ≤ items m
   seen_few bias s d = let e = lowest bias s d in let l = first-le (has_fault f m) (items m) 0 in omega arith
 
-  module _ (bias : ℕ) (s : Seen) (d : Sees f m bias (items m) s) (r : Lowest) (w : Lowers f m s.item r) where
+  -- the item that repeats, or the item seen last where none before it does
+  module _ (bias : ℕ) (s : Seen) (d : Sees f m bias (items m) s) (r : ℕ) (w : r ≡ first (repeats f m) 0 s.item) where
     clear : (i : ℕ) → i < s.item → item_fault f m i ≡ 0
     clear i l = let e = lowest bias s d in no_fault f m i (first_below (has_fault f m) (items m) 0 i (omega arith) (omega arith))
 
-    first_bad_lem : first_bad f m ≡ r.item
+    first_bad_lem : first_bad f m ≡ r
     unfolding first_bad
     first_bad_lem =
         first_same (bad_relocation f m) (λ i. has_fault f m i || repeated i) (items m) 0 (λ i a b. bad_item i)
         ∙ first_or (has_fault f m) repeated (items m)
         ∙ ap (λ (x : ℕ). first repeated 0 x) (sym (lowest bias s d))
         ∙ first_same repeated (repeats f m) s.item 0 (λ i a b. repeats_same s.item clear i (omega arith))
-        ∙ sym w.lowest
+        ∙ sym w
 
-    within : (r.item ≤ s.item) × (s.item ≤ items m)
-    within =
-        let a = first-le (repeats f m) s.item 0 in
-        let e = w.lowest in
-        (omega arith, seen_few bias s d)
+    within : s.item ≤ items m
+    within = seen_few bias s d
 
     -- the answer, where an item is the lowest bad one
-    answer : (number position : ℕ) → r.item < items m → number ≡ cond (barred (target_at f m r.item)) 10 11
-        → position ≡ position_at f m r.item → walk_of f m bias ≡ refuse number position
+    answer : (number position : ℕ) → r < items m → number ≡ cond (barred (target_at f m r)) 10 11
+        → position ≡ position_at f m r → walk_of f m bias ≡ refuse number position
     unfolding walk_of relocations_check
-    answer number position l n p = rw (first_bad_lem, ne_eqb r.item (items m) (λ q. omega arith), n, p)
+    answer number position l n p = rw (first_bad_lem, ne_eqb r (items m) (λ q. omega arith), n, p)
 
-    -- a repeat before any fault
-    pub walk_repeat : r.item < s.item → walk_of f m bias ≡ refuse 11 r.position
+    repeat : r < s.item → (position : ℕ) → position ≡ position_at f m r → walk_of f m bias ≡ refuse 11 position
     unfolding repeats
-    walk_repeat l =
+    repeat l position q =
         let u = within in
-        let e = w.lowest in
-        let hit : repeats f m r.item ≡ true = rw e (first_true (repeats f m) s.item 0 (omega arith)) in
-        let kept = and_left (live f m r.item) _ hit in
-        let b = (faultless_item f m r.item (clear r.item l) kept).0 in
-        answer 11 r.position (omega arith) (rw b) (w.reported l)
+        let hit : repeats f m r ≡ true = rw w (first_true (repeats f m) s.item 0 (omega arith)) in
+        let kept = and_left (live f m r) _ hit in
+        let b = (faultless_item f m r (clear r l) kept).0 in
+        answer 11 position (omega arith) (rw b) q
 
-    -- a fault, and no repeat before it
-    pub walk_fault : s.item ≤ r.item → (s.number ≡ 0 → ⊥) → walk_of f m bias ≡ refuse s.number s.position
-    walk_fault l z =
+    fault : r ≡ s.item → (x : Refusal) → s.fault ≡ Some x → walk_of f m bias ≡ refuse (number_of x.reason) x.position
+    fault e x z =
         let u = within in
-        let e : r.item ≡ s.item = omega arith in
-        let v : s.item < items m = ⊎_elim (λ (q : s.item ≡ items m). absurd (z (d.none q))) (λ q. q) (eq-or-lt_of_le u.1) in
-        answer s.number s.position (omega arith) (rw e (fault_number s.item s.number (d.fault v) z)) (rw e (d.reported v))
+        let v : s.item < items m =
+        ⊎_elim (λ (q : s.item ≡ items m). absurd (let n = d.none q in cc)) (λ q. q) (eq-or-lt_of_le u) in
+        let says = subst (λ (y : Option Refusal). Says y (item_fault f m s.item) (position_at f m s.item)) z (d.fault v) in
+        answer (number_of x.reason) x.position (omega arith)
+        (rw e (fault_number s.item (number_of x.reason) says.0 (number_some x.reason))) (rw e says.1)
 
-    -- neither
-    pub walk_good : s.item ≤ r.item → s.number ≡ 0
-        → walk_of f m bias ≡ good (record { words = s.tally.words; outside = s.tally.outside })
+    none : r ≡ s.item → s.fault ≡ None → walk_of f m bias ≡ good (record { words = s.tally.words; outside = s.tally.outside })
     unfolding walk_of walked_of relocations_check words_of
-    walk_good l z =
-        let u = within in
+    none l z =
         let e : s.item ≡ items m = sees_none f m bias (items m) (items m) (omega arith) s d z in
-        let q : r.item ≡ items m = omega arith in
+        let q : r ≡ items m = omega arith in
         let t = d.tallied in
         rw (first_bad_lem, q, eq-eqb (items m) (items m) refl, t.words, t.outside, e)
+
+  module _ (bias : ℕ) (s : Seen) (d : Sees f m bias (items m) s) where
+    -- a repeat before any fault
+    pub walk_repeat : (v : Lowest) → Lowers f m s.item (Some v) → walk_of f m bias ≡ refuse 11 v.position
+    walk_repeat v w = repeat bias s d v.item w.lowest w.below v.position w.reported
+
+    module _ (w : Lowers f m s.item None) where
+      -- a fault, and no repeat before it
+      pub walk_fault : (x : Refusal) → s.fault ≡ Some x → walk_of f m bias ≡ refuse (number_of x.reason) x.position
+      walk_fault x z = fault bias s d s.item (sym w) refl x z
+
+      -- neither
+      pub walk_good : s.fault ≡ None → walk_of f m bias ≡ good (record { words = s.tally.words; outside = s.tally.outside })
+      walk_good z = none bias s d s.item (sym w) refl z
 
 -- ---- for callers: what a walk that passes has found, and the refusal of one that does not
 
@@ -166,6 +179,6 @@ module _ (f : List ℕ) (m : Module) (bias : ℕ) where
       let g = a.rest in
       record { passes = a.here; words = cc; outside = cc }
 
-  pub walk_refused : (q : Refusal) → walk_of f m bias ≡ bad q → relocations_check f m ≡ bad q
+  pub walk_refused : (q : outcome.Refusal) → walk_of f m bias ≡ bad q → relocations_check f m ≡ bad q
   unfolding walk_of
   walk_refused q e = and_then_bad (relocations_check f m) _ e (λ r. r) (λ _ _ r. search never)

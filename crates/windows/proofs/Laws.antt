@@ -2,11 +2,11 @@
 -- Assumes nothing.
 use Prim.Native.Nat.{ℕ, ◌+◌, ◌-◌, ◌≤◌, ◌<◌}
 use mathlib.Core.Path.{◌≡◌, refl, sym, ap, ◌∙◌}
-use mathlib.Core.Bool.{Bool, true, false, not, cond, ◌&&◌}
+use mathlib.Core.Bool.{Bool, true, false, cond, ◌&&◌}
 use mathlib.Core.List.{List}
 use native.Mathlib.Omega.{arith}
-use lib.Dec.{leb, eqb}
-use borrow.Author.Tests.{leb-true, ltb-true, le-leb, lt-leb, lt-ltb, le-ltb, eq-eqb, ne_eqb}
+use lib.Dec.{leb}
+use borrow.Author.Tests.{leb-true, ltb-true, le-leb, lt-ltb}
 use Rattle.rules.specs.Bytes.{le}
 use Rattle.rules.specs.First.{first, some_below}
 use Rattle.rules.specs.Relocations.{entry_at, place_at, live}
@@ -27,32 +27,9 @@ module _ (lo size p : ℕ) where
   unfolding in_window
   window_in a b = rw (le-leb lo p a, lt-ltb (p - lo) size b)
 
-  pub window_before : p < lo → in_window lo size p ≡ false
-  unfolding in_window
-  window_before a = rw (lt-leb lo p a)
-
-  pub window_behind : lo ≤ p → size ≤ p - lo → in_window lo size p ≡ false
-  unfolding in_window
-  window_behind a b = rw (le-leb lo p a, le-ltb (p - lo) size b)
-
   pub in_window_lem : in_window lo size p ≡ true → (lo ≤ p) × (p - lo < size)
   unfolding in_window
   in_window_lem e = (leb-true lo p (and_left (leb lo p) _ e), ltb-true (p - lo) size (and_right (leb lo p) _ e))
-
--- a place that is not kept is no hit, and leaves the map
-pub met_none : (lo place : ℕ) (keep : Bool) (map : List ℕ) → keep ≡ false → Met lo keep place map false map
-met_none lo place keep map e = rw e (record { hits = refl; marks = λ _. refl })
-
-pub met_in : (lo place : ℕ) (keep : Bool) (map : List ℕ) (r : Bool) (after : List ℕ) → keep ≡ true → r ≡ hit map (place - lo)
-    → (r ≡ false → after ≡ marked map (place - lo)) → Met lo keep place map r after
-met_in lo place keep map r after e h k = rw e (record { hits = h; marks = k })
-
--- an entry of kind 0 is not kept, any other where it is in the window
-pub skip_entry : (kind : ℕ) (b : Bool) → kind ≡ 0 → (not (eqb kind 0) && b) ≡ false
-skip_entry kind b e = rw (eq-eqb kind 0 e)
-
-pub read_entry : (kind : ℕ) (b : Bool) → (kind ≡ 0 → ⊥) → (not (eqb kind 0) && b) ≡ b
-read_entry kind b e = rw (ne_eqb kind 0 e)
 
 -- ---- the items
 

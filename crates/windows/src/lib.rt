@@ -9,18 +9,12 @@ ghost use Rattle.windows.specs.Window.{in_window, entry_in, Wide, Empty, Met, Wa
 use rules::Relocations;
 
 // Puts a place into the map of a window, if it is there; whether it shares a byte with one that the map has.
+#[tactic(auto, unfolding(crate::specs::Window::in_window))]
 pub fn meet_in(map: &mut [u8], place: u64, lo: u64, size: u64) -> bool
     requires { Wide size map.old }
     ensures { Met lo (in_window lo size place) place map.old result map.new }
 {
-    if place < lo {
-        return false;
-    }
-    let p = place - lo;
-    if size <= p {
-        return false;
-    }
-    marks::meet(map, p)
+    lo <= place && place - lo < size && marks::meet(map, place - lo)
 }
 
 // The same for the entry at a position of the file, unless it is skipped.
@@ -28,10 +22,7 @@ fn meet_entry(map: &mut [u8], f: &[u8], at: usize, lo: u64, size: u64) -> bool
     requires { Wide size map.old × (at + 24 ≤ length f.now) }
     ensures { Met lo (entry_in f.now lo size at) (le 8 f.now at) map.old result map.new }
 {
-    if reads::le32(f, at + 8) == 0 {
-        return false;
-    }
-    meet_in(map, reads::le64(f, at), lo, size)
+    reads::le32(f, at + 8) != 0 && meet_in(map, reads::le64(f, at), lo, size)
 }
 
 // The lowest of the first n entries that repeats in a window; where none does, the map has their places.

@@ -4,15 +4,6 @@ use native.Mathlib.Omega.{arith}
 use Rattle.descriptors.proofs.Laws.{read_short}
 use Rattle.descriptors.proofs.read_global.Goals as goal
 
-pub overflow_mul-distance : goal.overflow_mul-distance
-overflow_mul-distance c = let n = c.in-Some.ensures in omega (arith, n.small)
-
-pub overflow_add-distance : goal.overflow_add-distance
-overflow_add-distance c = let n = c.in-Some.ensures in omega (arith, n.small)
-
-pub overflow_sub-distance : goal.overflow_sub-distance
-overflow_sub-distance c = let n = c.in-Some.ensures in omega (arith, n.small)
-
 pub returns-then-c-distance : goal.returns-then-c-distance
 returns-then-c-distance c =
     let a = c.args in

@@ -6,20 +6,11 @@ use Rattle.rules.proofs.BytesLaws.{got}
 use Rattle.descriptors.proofs.Laws.{one_byte, two_bytes}
 use Rattle.descriptors.proofs.short_at.Goals as goal
 
-pub returns-in_err-get : goal.returns-in_err-get
-returns-in_err-get c = rw c.from_residual.ensures tt
-
 pub returns-then-low-lt-RADIX : goal.returns-then-low-lt-RADIX
 returns-then-low-lt-RADIX c =
     let a = c.args in
     let low = got a.s.now a.at c.in_ok-get.field-0 c.in_ok-get.ensures.lookup in
     one_byte a.s.now a.at c.from-low.result low.0 (rw (c.from-low.ensures, low.1)) (omega arith)
-
-pub returns-in_err-get-2 : goal.returns-in_err-get-2
-returns-in_err-get-2 c = rw c.from_residual-in_err-get-2.ensures tt
-
-pub returns-then-high-eq0 : goal.returns-then-high-eq0
-returns-then-high-eq0 c = tt
 
 pub returns : goal.returns
 returns c =

@@ -1,12 +1,9 @@
 -- The loop keeps that the whole count is the globals read and the count from here on.
 -- Assumes nothing.
-use mathlib.Core.Path.{refl, sym, ◌∙◌}
+use mathlib.Core.Path.{sym, ◌∙◌}
 use native.Mathlib.Omega.{arith}
-use Rattle.globals.proofs.Laws.{walking_start, read_filled, read_fits, walking_outside, walking_next, walking_finish, walking_left, walking_whole}
+use Rattle.globals.proofs.Laws.{read_filled, read_fits, walking_outside, walking_next, walking_finish, walking_left, walking_whole}
 use Rattle.globals.proofs.walk_table.Goals as goal
-
-pub loop-i-init : goal.loop-i-init
-loop-i-init c = let a = c.args in walking_start a.f.now a.h a.table.now _ refl
 
 pub returns-in_default : goal.returns-in_default
 returns-in_default c =

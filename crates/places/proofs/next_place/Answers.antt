@@ -1,14 +1,8 @@
 -- The lowest bit left names the first place ahead, or the place is looked for.
 -- Assumes nothing.
 use Rattle.std.proofs.Common.{arith}
-use Rattle.places.proofs.Laws.{passing_none, passing_left, reading_start, passing_found, next_start}
+use Rattle.places.proofs.Laws.{passing_none, reading_start, passing_found, next_start}
 use Rattle.places.proofs.next_place.Goals as goal
-
-pub overflow_sub-result : goal.overflow_sub-result
-overflow_sub-result c =
-    let k = c.args.c in
-    let odd = c.if-c-eq1.true in
-    passing_left (passing_none k.rest k.left k.at (omega arith) c.requires.0.bits)
 
 pub returns-then-c-eq1 : goal.returns-then-c-eq1
 returns-then-c-eq1 c =
