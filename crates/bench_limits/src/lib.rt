@@ -35,8 +35,7 @@ fn put_choices(choices: &mut [u8]) {
     }
 }
 
-// Loads an image that `put` writes over zeros, with the tags of its globals; the word is that of the last place. Each large array is in a
-// function by itself, and a call is not inlined: so the arrays of many calls are on the stack once.
+// Each large array is in a function by itself.
 fn lend_plane(rt: &impl Print, f: &[u8], choices: &[u8], memory: &mut [u8]) -> io::Result<()> {
     let mut plane = [0u8; PLANE];
     bench_runs::run_load(rt, f, BIAS, memory, &mut plane, choices, LAST)
@@ -47,6 +46,22 @@ fn lend_memory(rt: &impl Print, f: &[u8], choices: &[u8]) -> io::Result<()> {
     lend_plane(rt, f, choices, &mut memory)
 }
 
+// Loads the image that `put` writes over zeros; the word is that of the last place.
+fn put_and_load<F: Fn(&mut [u8])>(
+    rt: &impl Print,
+    name: &[u8],
+    f: &mut [u8],
+    choices: &[u8],
+    put: F,
+) -> io::Result<()>
+    requires { F.IsAlwaysCallable put }
+{
+    rt.write_all(name)?;
+    put(f);
+    lend_memory(rt, f, choices)
+}
+
+// The same, with the room for the image. This is not inlined: the arrays of many calls are on the stack once.
 #[inline(never)]
 fn run_limit<F: Fn(&mut [u8])>(
     rt: &impl Print,
@@ -57,9 +72,7 @@ fn run_limit<F: Fn(&mut [u8])>(
     requires { F.IsAlwaysCallable put }
 {
     let mut f = [0u8; FILE];
-    rt.write_all(name)?;
-    put(&mut f);
-    lend_memory(rt, &f, choices)
+    put_and_load(rt, name, &mut f, choices, put)
 }
 
 // As many relocations as a module may have, and one more.
@@ -71,9 +84,12 @@ fn run_relocations(rt: &impl Print) -> io::Result<()> {
     run_limit(rt, b"65537 relocations: ", TAGS, |f| {
         bench_images::put_long(f, MEMORY as u64, entries + 1, 0x10c0)
     })?;
-    run_limit(rt, b"65536 relocations, the last at the first place: ", TAGS, |f| {
-        bench_images::put_repeated(f, MEMORY as u64, entries, 0x10c0)
-    })
+    run_limit(
+        rt,
+        b"65536 relocations, the last at the first place: ",
+        TAGS,
+        |f| { bench_images::put_repeated(f, MEMORY as u64, entries, 0x10c0) },
+    )
 }
 
 // The same of packed places.
@@ -86,16 +102,20 @@ fn run_packed(rt: &impl Print) -> io::Result<()> {
     })
 }
 
-// The same of globals.
-fn run_globals(rt: &impl Print) -> io::Result<()> {
-    let mut choices = [0u8; CHOICES];
-    put_choices(&mut choices);
-    run_limit(rt, b"65536 globals: ", &choices, |f| {
+// The same of globals, whose tags take turns.
+fn run_choices(rt: &impl Print, choices: &mut [u8]) -> io::Result<()> {
+    put_choices(choices);
+    run_limit(rt, b"65536 globals: ", choices, |f| {
         bench_images::put_globals(f, MEMORY as u64, GLOBAL_LIMIT, LAST as u64, LAST_GLOBAL)
     })?;
-    run_limit(rt, b"65537 globals: ", &choices, |f| {
+    run_limit(rt, b"65537 globals: ", choices, |f| {
         bench_images::put_globals(f, MEMORY as u64, GLOBAL_LIMIT + 1, LAST as u64, LAST_GLOBAL)
     })
+}
+
+fn run_globals(rt: &impl Print) -> io::Result<()> {
+    let mut choices = [0u8; CHOICES];
+    run_choices(rt, &mut choices)
 }
 
 // All of these.

@@ -5,5 +5,5 @@ use Rattle.std.proofs.lemmas.List.{length-replicate}
 use mathlib.Core.Path.{sym}
 use Rattle.bench_limits.proofs.lend_plane.Goals as goal
 
-pub slice_bounds-lend_choices-end : goal.slice_bounds-lend_choices-end
-slice_bounds-lend_choices-end g c = sym (length-replicate {A = ℕ} 131584 0)
+pub slice_bounds-run_load-end : goal.slice_bounds-run_load-end
+slice_bounds-run_load-end g c = sym (length-replicate {A = ℕ} 131584 0)

@@ -1,9 +1,0 @@
--- The array's length by a law: nothing may compute the array.
--- Assumes nothing.
-use Rattle.std.proofs.Common.{ℕ}
-use Rattle.std.proofs.lemmas.List.{length-replicate}
-use mathlib.Core.Path.{sym}
-use Rattle.bench_limits.proofs.lend_choices.Goals as goal
-
-pub slice_bounds-run_lent-end : goal.slice_bounds-run_lent-end
-slice_bounds-run_lent-end g c = sym (length-replicate {A = ℕ} 65536 0)
