@@ -30,12 +30,12 @@ const SIXTEEN_BITS: u64 = 0x1ffff;
 
 // The tags of many globals, by turns.
 fn put_choices(choices: &mut [u8]) {
-    for i in 0..choices.len() {
-        choices[i] = (i % 2) as u8 + 1;
+    for (i, choice) in choices.iter_mut().enumerate() {
+        *choice = (i % 2) as u8 + 1;
     }
 }
 
-// Each large array is in a function by itself.
+// Loads an image, with a plane, and below with memory; the word is that of the last place. Each large array is in a function by itself.
 fn lend_plane(rt: &impl Print, f: &[u8], choices: &[u8], memory: &mut [u8]) -> io::Result<()> {
     let mut plane = [0u8; PLANE];
     bench_runs::run_load(rt, f, BIAS, memory, &mut plane, choices, LAST)
@@ -46,7 +46,7 @@ fn lend_memory(rt: &impl Print, f: &[u8], choices: &[u8]) -> io::Result<()> {
     lend_plane(rt, f, choices, &mut memory)
 }
 
-// Loads the image that `put` writes over zeros; the word is that of the last place.
+// Loads the image that `put` writes over zeros.
 fn put_and_load<F: Fn(&mut [u8])>(
     rt: &impl Print,
     name: &[u8],

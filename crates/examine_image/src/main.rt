@@ -15,6 +15,7 @@ const IMAGE_LIMIT: usize = 65536;
 const READ_LIMIT: usize = 65537;
 
 // Longer input is refused; an image is examined.
+#[tactic(auto, unfolding(crate::specs::Image::image_answer))]
 fn answer_image(f: &[u8]) -> Result<Facts, Refusal>
     ensures { of_result result ≡ image_answer f.now }
 {

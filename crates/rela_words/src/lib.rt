@@ -22,9 +22,7 @@ fn loaded_for(mem: &[u8], t: Target, place: usize) -> u64
 {
     match t {
         Target::Base => reads::read64(mem, place),
-        Target::Defined(_) => 0,
-        Target::Undefined => 0,
-        Target::Barred => 0,
+        Target::Defined(_) | Target::Undefined | Target::Barred => 0,
     }
 }
 
