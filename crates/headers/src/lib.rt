@@ -14,6 +14,7 @@ const HEADER_BYTES: u64 = 56;
 const IDENTIFICATION: [u8; 7] = [0x7f, 0x45, 0x4c, 0x46, 2, 1, 1];
 
 // Check 1: the file's length.
+#[tactic(auto, unfolding(rules::specs::Headers::size_check))]
 fn check_size(f: &[u8]) -> Result<(), Refusal>
     ensures { of_result result ≡ size_check f.now }
 {
@@ -37,6 +38,7 @@ fn check_identification(f: &[u8]) -> Result<(), Refusal>
 }
 
 // Check 3, of the header's fields.
+#[tactic(auto, unfolding(rules::specs::Headers::good_header))]
 fn is_good_header(
     length: u64,
     kind: u16,
@@ -48,25 +50,13 @@ fn is_good_header(
 ) -> bool
     ensures { result ≡ good_header length kind machine version size count table }
 {
-    if kind != 3 {
-        return false;
-    }
-    if machine != 183 {
-        return false;
-    }
-    if version != 1 {
-        return false;
-    }
-    if size as u64 != HEADER_BYTES {
-        return false;
-    }
-    if count < 1 {
-        return false;
-    }
-    if HEADER_LIMIT < count {
-        return false;
-    }
-    reads::sum_within(table, HEADER_BYTES * (count as u64), length)
+    kind == 3
+        && machine == 183
+        && version == 1
+        && size as u64 == HEADER_BYTES
+        && 1 <= count
+        && count <= HEADER_LIMIT
+        && reads::sum_within(table, HEADER_BYTES * (count as u64), length)
 }
 
 // Check 3: the header.

@@ -16,48 +16,31 @@ fn is_power(a: u64) -> bool
 }
 
 // Check 4's last clause, on alignment.
+#[tactic(auto, unfolding(rules::specs::Segments::aligned))]
 fn is_aligned(align: u64, offset: u64, vaddr: u64) -> bool
     ensures { result ≡ aligned align offset vaddr }
 {
-    if align < 2 {
-        return true;
-    }
-    if is_power(align) {
-        return offset % align == vaddr % align;
-    }
-    false
+    align < 2 || (is_power(align) && offset % align == vaddr % align)
 }
 
 // A PT_LOAD is good, in a file of so many bytes, after a PT_LOAD that ends at last.
+#[tactic(auto, unfolding(rules::specs::Segments::good_load))]
 fn is_good_load(length: u64, last: u64, s: Segment) -> bool
     ensures { result ≡ good_load length last s }
 {
-    if s.memsz == 0 {
-        return false;
-    }
-    if s.memsz < s.filesz {
-        return false;
-    }
-    if !reads::sum_within(s.offset, s.filesz, length) {
-        return false;
-    }
-    if !reads::sum_within(s.vaddr, s.memsz, MEMORY_LIMIT) {
-        return false;
-    }
-    if s.vaddr < last {
-        return false;
-    }
-    is_aligned(s.align, s.offset, s.vaddr)
+    s.memsz != 0
+        && s.filesz <= s.memsz
+        && reads::sum_within(s.offset, s.filesz, length)
+        && reads::sum_within(s.vaddr, s.memsz, MEMORY_LIMIT)
+        && last <= s.vaddr
+        && is_aligned(s.align, s.offset, s.vaddr)
 }
 
 // Check 4, of one header.
 fn is_bad_load(length: u64, last: u64, s: Segment) -> bool
     ensures { result ≡ (is_load s && not (good_load length last s)) }
 {
-    if s.kind != PT_LOAD {
-        return false;
-    }
-    !is_good_load(length, last, s)
+    s.kind == PT_LOAD && !is_good_load(length, last, s)
 }
 
 // The end of the last PT_LOAD, once this header is seen.

@@ -115,32 +115,17 @@ pub fn part_of(s: &[u8], at: usize, n: usize) -> &[u8]
     &s[at..end]
 }
 
-// Both hold.
-pub fn both(a: bool, b: bool) -> bool
-    ensures { result ≡ (a && b) }
-{
-    if a { b } else { false }
-}
-
 // a + b is at most a limit, as an exact sum.
 pub fn sum_within(a: u64, b: u64, limit: u64) -> bool
     ensures { result ≡ leb (a + b) limit }
 {
-    if limit < a {
-        return false;
-    }
-    b <= limit - a
+    a <= limit && b <= limit - a
 }
 
 // The size bytes from start hold the n bytes from a, as exact sums.
+#[tactic(auto, unfolding(rules::specs::Segments::covers))]
 pub fn holds_range(start: u64, size: u64, a: u64, n: u64) -> bool
     ensures { result ≡ covers start size a n }
 {
-    if a < start {
-        return false;
-    }
-    if size < n {
-        return false;
-    }
-    a - start <= size - n
+    start <= a && n <= size && a - start <= size - n
 }
