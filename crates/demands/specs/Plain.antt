@@ -1,7 +1,8 @@
 -- The plain loader, a definition of its own: AAELF64's base operations, no tags. It is fed the file, the bias and the memory
 -- length. It shares with the load the reading of the file and the tests that both owe, and nothing that the load works out.
 -- Assumes nothing.
-use Rattle.std.specs.Prelude.{ℕ, zero, suc, ◌+◌, ◌*◌, ◌^◌, Bool, true, cond, not, ◌&&◌, List, [], ◌∷◌, ◌++◌, length, take, drop, replicate, ltb, eqb, Option, Some, None}
+use Rattle.std.specs.Prelude.{ℕ, zero, suc, ◌+◌, ◌*◌, ◌^◌, Bool, true, cond, not, ◌&&◌, List}
+use Rattle.std.specs.Prelude.{[], ◌∷◌, ◌++◌, length, take, drop, replicate, ltb, eqb, Option, Some, None}
 use Rattle.std.specs.Prelude.{ℤ, pos, negsuc, ◌+ℤ◌, nat_abs}
 use Rattle.rules.specs.Outcome.{Outcome, passed, require}
 use Rattle.rules.specs.Checks.{Check, checked}

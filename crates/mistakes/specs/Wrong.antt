@@ -1,6 +1,7 @@
 -- Wrong definitions, each a rule of the rules or of the plain loader with one mistake in it. Nothing else cites them.
 -- Assumes nothing.
-use Rattle.std.specs.Prelude.{ℕ, ◌+◌, ◌*◌, ◌/◌, ◌%◌, ◌^◌, Bool, cond, not, ◌&&◌, ◌||◌, List, [], ◌∷◌, ◌++◌, length, ltb, leb, eqb, pos, ◌+ℤ◌, Option, Some, None}
+use Rattle.std.specs.Prelude.{ℕ, ◌+◌, ◌*◌, ◌/◌, ◌%◌, ◌^◌, Bool, cond, not, ◌&&◌, ◌||◌, List}
+use Rattle.std.specs.Prelude.{[], ◌∷◌, ◌++◌, length, ltb, leb, eqb, pos, ◌+ℤ◌, Option, Some, None}
 use Rattle.rules.specs.Outcome.{Outcome, good, refuse, and_then, mapped, passed, require}
 use Rattle.rules.specs.Checks.{Check, checked}
 use Rattle.rules.specs.Bytes.{le}

@@ -29,7 +29,10 @@ or_false false = refl
 power_even : (n b : ℕ) → power_below (suc n) (2 * b) ≡ power_below n b
 unfolding power_below
 power_even zero b = rw (ne_eqb (2 * b) 1 (λ e. omega arith))
-power_even (suc n) b = let e : eqb (2 * b) (2 ^ suc n) ≡ eqb b (2 ^ n) = eqb_iff _ _ _ _ (λ q. omega (arith, pow-suc 2 n)) (λ q. omega (arith, pow-suc 2 n)) in rw (e, power_even n b)
+power_even (suc n) b =
+    let e : eqb (2 * b) (2 ^ suc n) ≡ eqb b (2 ^ n) =
+    eqb_iff _ _ _ _ (λ q. omega (arith, pow-suc 2 n)) (λ q. omega (arith, pow-suc 2 n)) in
+    rw (e, power_even n b)
 
 power_odd : (n b : ℕ) → power_below (suc n) (2 * b + 1) ≡ eqb b 0
 unfolding power_below

@@ -1,6 +1,7 @@
 -- Checks 8, 16 and 9: global descriptors.
 -- Assumes nothing.
-use Rattle.std.specs.Prelude.{ℕ, zero, suc, ◌+◌, ◌*◌, ◌-◌, ◌/◌, ◌%◌, Bool, true, false, cond, not, ◌&&◌, List, [], ◌∷◌, length, get_or, ltb, leb, eqb, Option, Some, None}
+use Rattle.std.specs.Prelude.{ℕ, zero, suc, ◌+◌, ◌*◌, ◌-◌, ◌/◌, ◌%◌, Bool, true, false, cond}
+use Rattle.std.specs.Prelude.{not, ◌&&◌, List, [], ◌∷◌, length, get_or, ltb, leb, eqb, Option, Some, None}
 use Rattle.rules.specs.Outcome.{Outcome, good, bad, found, refuse, and_then, require}
 use Rattle.rules.specs.Limits.{address_limit, global_limit, granule}
 use Rattle.rules.specs.Bytes.{part}

@@ -1,6 +1,7 @@
 -- Checks 5 and 6: PT_DYNAMIC, and the dynamic entries up to the first DT_NULL.
 -- Assumes nothing.
-use Rattle.std.specs.Prelude.{ℕ, ◌+◌, ◌*◌, ◌-◌, ◌/◌, ◌%◌, Bool, true, false, cond, not, ◌&&◌, ◌||◌, List, [], ◌∷◌, ◌++◌, length, get_or, ltb, leb, eqb, Option, Some, None}
+use Rattle.std.specs.Prelude.{ℕ, ◌+◌, ◌*◌, ◌-◌, ◌/◌, ◌%◌, Bool, true, false, cond, not, ◌&&◌}
+use Rattle.std.specs.Prelude.{◌||◌, List, [], ◌∷◌, ◌++◌, length, get_or, ltb, leb, eqb, Option, Some, None}
 use Rattle.rules.specs.Outcome.{Outcome, good, refuse, and_then, require}
 use Rattle.rules.specs.Checks.{Check}
 use Rattle.rules.specs.Limits.{dynamic_limit}

@@ -1,6 +1,7 @@
 -- Check 4, and what the PT_LOADs hold.
 -- Assumes nothing.
-use Rattle.std.specs.Prelude.{ℕ, zero, suc, ◌+◌, ◌*◌, ◌-◌, ◌/◌, ◌%◌, ◌^◌, max, Bool, false, cond, not, ◌&&◌, ◌||◌, List, length, ltb, leb, eqb, Option, Some, None}
+use Rattle.std.specs.Prelude.{ℕ, zero, suc, ◌+◌, ◌*◌, ◌-◌, ◌/◌, ◌%◌, ◌^◌, max, Bool, false}
+use Rattle.std.specs.Prelude.{cond, not, ◌&&◌, ◌||◌, List, length, ltb, leb, eqb, Option, Some, None}
 use Rattle.rules.specs.Checks.{Check}
 use Rattle.rules.specs.Limits.{file_limit, memory_limit}
 use Rattle.rules.specs.Bytes.{le}

@@ -12,7 +12,14 @@ returns-in_default c =
 pub returns-then-entries : goal.returns-then-entries
 unfolding relocations_of
 returns-then-entries c =
-    rw (c.at-then-entries.ensures, ← c.value_of-address.ensures, ← c.value_of-bytes.ensures, ← c.table_backing.ensures, c.in-Some.is, lt-leb _ _ c.if-entries.true)
+    rw (
+      c.at-then-entries.ensures,
+      ← c.value_of-address.ensures,
+      ← c.value_of-bytes.ensures,
+      ← c.table_backing.ensures,
+      c.in-Some.is,
+      lt-leb _ _ c.if-entries.true,
+    )
 
 pub returns : goal.returns
 unfolding relocations_of

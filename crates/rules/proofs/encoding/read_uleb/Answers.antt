@@ -47,7 +47,8 @@ loop-preserved c =
       search rules,
       scaled l.counter l.scale (omega arith) l.invariant.1,
       omega (arith, room l.counter l.scale c.from.result (omega arith) (omega arith) l.invariant.1 (omega arith)),
-      rw (c.from.ensures, b.1, l.invariant.3, at_more s l.at (11 - l.counter) (omega arith) b.0 (omega arith), above_extend) (let e : 11 - l.counter - 1 ≡ 11 - (l.counter + 1) = omega arith in rw e),
+      rw (c.from.ensures, b.1, l.invariant.3, at_more s l.at (11 - l.counter) (omega arith) b.0 (omega arith), above_extend)
+          (let e : 11 - l.counter - 1 ≡ 11 - (l.counter + 1) = omega arith in rw e),
     )
 
 pub returns-in_err-b-2 : goal.returns-in_err-b-2
