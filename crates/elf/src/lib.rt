@@ -11,7 +11,11 @@ use rules::{Module, Refusal};
 pub fn read_module(f: &[u8]) -> Result<Module, Refusal>
     ensures { of_result result ≡ module_of f.now }
 {
-    let headers = headers::read_headers(f)?;
+    // Kept: this answer is taken apart, and its refusal passed up unchanged, in document 01's form between two layers.
+    let read = headers::read_headers(f);
+    let Ok(headers) = read else {
+        return Err(read.unwrap_err());
+    };
     pt_loads::check_loads(f, headers)?;
     let dynamic = dynamic::find_dynamic(f, headers)?;
     entries::check_entries(f, dynamic)?;

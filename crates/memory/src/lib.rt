@@ -7,12 +7,14 @@ ghost use Rattle.rules.specs.Memory.{over, put, put_word};
 // Bytes of a word.
 const WORD_BYTES: usize = 8;
 
-// The front of dst becomes src, as far as dst reaches.
+// The front of dst becomes src, as far as dst reaches. Kept: byte by byte, since std's own copy makes the archive for C need `memmove`.
 pub fn copy_front(dst: &mut [u8], src: &[u8])
     ensures { dst.new ≡ over dst.old src.now }
 {
     let n = dst.len().min(src.len());
-    dst[..n].copy_from_slice(&src[..n]);
+    for i in 0..n {
+        dst[i] = src[i];
+    }
 }
 
 // The bytes of m from at on become src.

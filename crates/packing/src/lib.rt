@@ -105,11 +105,12 @@ pub fn step_number(table: &[u8], position: u64, end: u64, index: u64, words: &mu
 {
     let cursor = Cursor { position, end };
     let step = cursor.step(table, index);
-    if let Err(r) = step {
+    let Ok(read) = step else {
+        let r = step.unwrap_err();
         memory::put64(words, 0, r.position);
         return u64::from(u8::from(r.reason));
-    }
-    let Ok(Some((g, next))) = step else {
+    };
+    let Some((g, next)) = read else {
         return 0;
     };
     write_global(words, g, next);

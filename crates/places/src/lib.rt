@@ -44,9 +44,9 @@ pub fn word_at(f: &[u8], at: u32, k: u32) -> u64
     reads::read64(f, position as usize)
 }
 
-// The next place, where the lowest bit left names none. Words that name none are passed over. Not inlined, so that `next_place` can be.
-#[inline(never)]
-fn far_place(f: &[u8], t: Packed, c: Run) -> Run
+// The next place. Words that name none are passed over. Always inlined, so that a walk keeps its run in registers.
+#[inline(always)]
+pub fn next_place(f: &[u8], t: Packed, c: Run) -> Run
     requires { Standing f.now t c × (0 < length (ahead f.now t c)) }
     ensures { Next f.now t c result }
 {
@@ -82,22 +82,4 @@ fn far_place(f: &[u8], t: Packed, c: Run) -> Run
         at: place + WORD_BYTES,
         place,
     }
-}
-
-// The next place. Where the lowest bit left names it, no word is read.
-#[inline]
-pub fn next_place(f: &[u8], t: Packed, c: Run) -> Run
-    requires { Standing f.now t c × (0 < length (ahead f.now t c)) }
-    ensures { Next f.now t c result }
-{
-    if c.rest % 2 == 1 {
-        return Run {
-            words: c.words,
-            rest: c.rest / 2,
-            left: c.left - 1,
-            at: c.at + WORD_BYTES,
-            place: c.at,
-        };
-    }
-    far_place(f, t, c)
 }

@@ -59,7 +59,9 @@ pub fn byte_at(s: &[u8], at: usize) -> u8
     0
 }
 
-// The N bytes from a position on, of which fewer than N are there: the others are 0.
+// The N bytes from a position on, of which fewer than N are there: the others are 0. Rare, and not inlined, so that its callers stay small.
+#[cold]
+#[inline(never)]
 fn cut_bytes<const N: usize>(s: &[u8], at: usize) -> [u8; N]
     ensures { Stands N result s.now at }
 {

@@ -13,7 +13,7 @@ use items::ENTRY_BYTES;
 use rules::{Headers, Module, Target};
 
 // A tag stands in bits 56 to 59 of a word.
-const TAG_UNIT: u64 = 1 << 56;
+pub const TAG_UNIT: u64 = 1 << 56;
 
 // What a place holds, where the tag of a target's word is told by it: a place far away is not read in vain.
 #[tactic(auto, unfolding(crate::specs::Words::loaded_for))]

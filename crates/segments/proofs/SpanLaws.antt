@@ -24,6 +24,10 @@ held_too write a n x k s h e =
     let lets : (not write || writable s) ≡ true = search (and_left, and_right) in
     rw (load, lets, e)
 
+held_covers : (write : Bool) (a n : ℕ) (s : Segment) → holds write a n s ≡ true → covers s.vaddr s.memsz a n ≡ true
+unfolding holds
+held_covers write a n s h = search (and_left, and_right)
+
 -- what covers bytes is not empty
 pub covers_some : (start size a n : ℕ) → 0 < n → covers start size a n ≡ true → 0 < size
 unfolding covers
@@ -39,15 +43,17 @@ module _ (f : List ℕ) (h : Headers) (write : Bool) where
 
   -- the one found last holds the bytes
   pub held_last : (a n : ℕ) (s : Span) → 0 < n → Sound f h write s → covers s.start s.size a n ≡ true → Held f h write a n (Some s)
-  held_last a n s l sound e = (sound, sound.within (covers_some s.start s.size a n l e) a n e)
+  held_last a n s l sound e =
+      let some = covers_some s.start s.size a n l e in
+      (sound, sound.within some a n e, some)
 
   -- the one of an index does
-  pub held_at : (a n i : ℕ) (s : Segment) → i < h.count → s ≡ header_at f h i → holds_at f h write a n i ≡ true
+  pub held_at : (a n i : ℕ) (s : Segment) → 0 < n → i < h.count → s ≡ header_at f h i → holds_at f h write a n i ≡ true
       → Held f h write a n (Some (record { start = s.vaddr; size = s.memsz }))
   unfolding in_memory holds_at
-  held_at a n i s m e b =
+  held_at a n i s l m e b =
       let hit : holds write a n s ≡ true = rw e b in
       let sound : Sound f h write (record { start = s.vaddr; size = s.memsz }) = record {
         within = λ _ x k q. at_some (holds_at f h write x k) h.count i m (rw (← e) (held_too write a n x k s hit q));
       } in
-      (sound, at_some (holds_at f h write a n) h.count i m b)
+      (sound, at_some (holds_at f h write a n) h.count i m b, covers_some s.vaddr s.memsz a n l (held_covers write a n s hit))

@@ -111,7 +111,8 @@ fn is_holding_at(f: &[u8], h: Headers, write: bool, a: u64, n: u64, i: u32) -> b
     reads::holds_range(reads::read64(f, at + 16), reads::read64(f, at + 40), a, n)
 }
 
-// The memory part of the first PT_LOAD that holds the n bytes from a, a writable one where that is asked.
+// The memory part of the first PT_LOAD that holds the n bytes from a, a writable one where that is asked. Not inlined, so that `hold` can be.
+#[inline(never)]
 fn find_holder(f: &[u8], h: Headers, write: bool, a: u64, n: u64) -> Option<Span>
     requires { 0 < n }
     ensures { Held f.now h write a n result }

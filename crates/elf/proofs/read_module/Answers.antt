@@ -4,22 +4,16 @@ use Rattle.rules.proofs.ResultLaws.{passed_up}
 use Rattle.elf.proofs.Laws.{module_tables}
 use Rattle.elf.proofs.read_module.Goals as goal
 
-pub returns-in_err-headers : goal.returns-in_err-headers
-returns-in_err-headers c =
-    rw (
-      passed_up c.from_residual.result c.in_err-headers.field-0.0 c.from_residual.ensures.1,
-      module_tables,
-      ← c.read_headers.ensures,
-      c.in_err-headers.was,
-    )
+pub returns-in_default : goal.returns-in_default
+returns-in_default c = rw (module_tables, ← rw c.unwrap_err.ensures at c.read_headers-read.ensures)
 
 pub returns-in_err-check_loads : goal.returns-in_err-check_loads
 returns-in_err-check_loads c =
     rw (
-      passed_up c.from_residual-in_err-check_loads.result c.in_err-check_loads.field-0.0 c.from_residual-in_err-check_loads.ensures.1,
+      passed_up c.from_residual.result c.in_err-check_loads.field-0.0 c.from_residual.ensures.1,
       module_tables,
-      ← c.read_headers.ensures,
-      c.in_ok-headers.was,
+      ← c.read_headers-read.ensures,
+      c.in-Ok.is,
       ← c.check_loads.ensures,
       c.in_err-check_loads.was,
     )
@@ -29,8 +23,8 @@ returns-in_err-dynamic c =
     rw (
       passed_up c.from_residual-in_err-dynamic.result c.in_err-dynamic.field-0.0 c.from_residual-in_err-dynamic.ensures.1,
       module_tables,
-      ← c.read_headers.ensures,
-      c.in_ok-headers.was,
+      ← c.read_headers-read.ensures,
+      c.in-Ok.is,
       ← c.check_loads.ensures,
       c.in_ok-check_loads.was,
       ← c.find_dynamic.ensures,
@@ -42,8 +36,8 @@ returns-in_err-check_entries c =
     rw (
       passed_up c.from_residual-in_err-check_entries.result c.in_err-check_entries.field-0.0 c.from_residual-in_err-check_entries.ensures.1,
       module_tables,
-      ← c.read_headers.ensures,
-      c.in_ok-headers.was,
+      ← c.read_headers-read.ensures,
+      c.in-Ok.is,
       ← c.check_loads.ensures,
       c.in_ok-check_loads.was,
       ← c.find_dynamic.ensures,
@@ -56,8 +50,8 @@ pub returns : goal.returns
 returns c =
     rw (
       module_tables,
-      ← c.read_headers.ensures,
-      c.in_ok-headers.was,
+      ← c.read_headers-read.ensures,
+      c.in-Ok.is,
       ← c.check_loads.ensures,
       c.in_ok-check_loads.was,
       ← c.find_dynamic.ensures,

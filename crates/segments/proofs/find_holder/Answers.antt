@@ -15,7 +15,7 @@ pub returns-then-is_holding_at : goal.returns-then-is_holding_at
 returns-then-is_holding_at c =
     let l = c.loop-i in
     let a = c.args in
-    held_at a.f.now a.h a.write a.a a.n l.i c.header_at-s.result (omega arith) c.header_at-s.ensures
+    held_at a.f.now a.h a.write a.a a.n l.i c.header_at-s.result c.requires (omega arith) c.header_at-s.ensures
     (sym c.is_holding_at.ensures ∙ c.if-is_holding_at.true)
 
 pub loop-i-preserved : goal.loop-i-preserved
